@@ -24,7 +24,7 @@ use mr_base::Refusal;
 use mr_tables::Tables;
 use std::alloc::Global;
 
-/// Whether the rows of the tables agree with each other, and those of writes stand in the order of their ids, as both do where the
+/// Whether the rows of the tables agree with each other, and those of writes stand in the order of their ids, as both do if the
 /// tables stand for a replica. It looks each row up in other tables, and takes a word of memory for each booking, and 24 bytes for
 /// each row of `log`, `errorlog` and `cancels`.
 pub fn do_tables_agree(alloc: Global, tables: &Tables) -> Result<bool, Refusal>

@@ -9,7 +9,7 @@ use mr_tables::{CancelRow, ErrorRow, LogRow, Tables};
 use std::alloc::Global;
 use std::marker::Model;
 
-/// What a row of `log`, `errorlog` or `cancels` has of its write: the id, the time and the commit number, 0 where there is none.
+/// What a row of `log`, `errorlog` or `cancels` has of its write: the id, the time and the commit number, 0 if there is none.
 #[derive(Clone, Copy, Debug)]
 struct Note {
     server: ServerId,

@@ -6,7 +6,7 @@ use crate::id_rows::RowId;
 use mr_base::ServerId;
 use mr_tables::{Tables, VectorRow};
 
-/// What the vector tells of a server: its row, or one of zeros where it has none.
+/// What the vector tells of a server: its row, or one of zeros if it has none.
 pub(crate) fn vector_row(rows: &[VectorRow], server: ServerId) -> VectorRow
     ensures { result ≡ vector_in rows.now server }
 {

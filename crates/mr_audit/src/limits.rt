@@ -11,6 +11,7 @@ use mr_tables::{CancelRow, ErrorRow, LogRow, Tables, VectorRow};
 pub fn do_limits_agree(tables: &Tables) -> bool
     ensures { result ≡ do_limits_agree tables.now }
 {
+    // For the prover alone: servers are from 1 to 99.
     tables.meta.server.number();
     tables.meta.primary.number();
     let counts = are_counts_within(&tables.vector);
@@ -60,6 +61,7 @@ fn are_cancels_within(rows: &[CancelRow]) -> bool
 fn is_within(server: ServerId, n: u32, time: u64) -> bool
     ensures { result ≡ (is_id (record { server = server; n = n }) && is_time time) }
 {
+    // For the prover alone: a server is from 1 to 99.
     server.number();
     n >= 1 && n <= GREATEST_COUNT && time >= 1 && time <= GREATEST_TIME
 }

@@ -9,7 +9,7 @@ use mr_base::ServerId;
 use mr_tables::summary::Summary;
 use mr_tables::{BookingRow, CancelRow, CancelledRow, ErrorRow, LogRow, Tables};
 
-/// Whether a row has its mark, or its commit number, just where its write is committed, with these numbers of the servers.
+/// Whether a row has its mark, or its commit number, exactly if its write is committed, with these numbers of the servers.
 pub fn do_marks_agree(tables: &Tables, summary: &Summary) -> bool
     ensures { TellTheVector tables.now.vector summary.now.tallies → result ≡ do_marks_agree tables.now }
 {
@@ -51,7 +51,7 @@ fn are_logs_numbered(rows: &[LogRow], commits: u64, summary: &Summary) -> bool
     rows.iter().all(|row| is_numbered(row.server, row.n, row.seq, commits, summary))
 }
 
-/// Whether a write has a commit number, at most that of the last commit, just where it is committed.
+/// Whether a write has a commit number, at most that of the last commit, exactly if it is committed.
 fn is_numbered(server: ServerId, n: u32, seq: u64, commits: u64, summary: &Summary) -> bool
     ensures { result ≡ (same_mark (is_marked seq) (is_first summary.now.tallies server n) && nat_le seq commits) }
 {

@@ -49,7 +49,7 @@ fn are_committed(rows: &[VectorRow], commits: u64) -> bool
     left == 0
 }
 
-/// The latest time of all servers' last writes, 0 where there is none.
+/// The latest time of all servers' last writes, 0 if there is none.
 fn latest_time(rows: &[VectorRow]) -> u64
     ensures { result ≡ greatest (map (λ row. row.last_time) rows.now) }
 {

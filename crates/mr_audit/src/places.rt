@@ -167,7 +167,7 @@ fn is_same_error(
     id & room & slot & stop & title & stamp & number
 }
 
-/// Whether a row has the mark just where this is a commit number.
+/// Whether a row has the mark exactly if this is a commit number.
 fn is_mark(seq: u64, committed: bool) -> bool
     ensures { result ≡ same_mark (is_marked seq) committed }
 {

@@ -8,7 +8,7 @@ use mr_base::RoomName;
 use mr_tables::rooms::{is_before, is_known};
 use mr_tables::{BookingRow, CancelRow, CancelledRow, ErrorRow, LogRow, Tables};
 
-/// Whether the room of each row is known, by a binary search where the rooms stand in the order of their names.
+/// Whether the room of each row is known, by a binary search if the rooms stand in the order of their names.
 pub fn do_rooms_agree(tables: &Tables) -> bool
     ensures { result ≡ do_rooms_agree tables.now }
 {
@@ -61,7 +61,7 @@ fn are_logs_known(rooms: &[RoomName], rows: &[LogRow], is_sorted: bool) -> bool
     rows.iter().all(|row| has_room(rooms, &row.room, is_sorted))
 }
 
-/// Whether the room is among these, which are to be sorted where that is said of them.
+/// Whether the room is among these, which are to be sorted if that is said of them.
 fn has_room(rooms: &[RoomName], room: &RoomName, is_sorted: bool) -> bool
     ensures { (IsTrue is_sorted → Rise text_before (λ name. name) rooms.now) → result ≡ list_any (bytes_eq room.now) rooms.now }
 {

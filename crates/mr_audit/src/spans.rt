@@ -53,6 +53,7 @@ fn is_cancelled_span(row: &CancelledRow) -> bool
 fn is_span(day: Day, start: u32, stop: u32) -> bool
     ensures { result ≡ is_span (record { day = day; start = start }) stop }
 {
+    // For the prover alone: the day is within the calendar.
     day.is_within_calendar();
     start < MINUTES_OF_A_DAY && start < stop && stop <= MINUTES_OF_A_DAY
 }

@@ -16,7 +16,7 @@ pub(crate) fn comes_before(one: Note, next: Note) -> bool
             || (one.time < next.time && are_numbers_in_order(one.seq, next.seq)))
 }
 
-/// Whether a later write may have the second number where its server's earlier one has the first; 0 is none.
+/// Whether a later write may have the second number if its server's earlier one has the first; 0 is none.
 fn are_numbers_in_order(seq: u64, later: u64) -> bool
     ensures { result ≡ are_numbers_in_order seq later }
 {

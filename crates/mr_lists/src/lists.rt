@@ -63,6 +63,7 @@ pub fn opening_tables(alloc: Global, server: ServerId, primary: ServerId) -> Tab
     ensures tables { result ≡ tables_of (opening server primary) }
     ensures stands { Stands result (opening server primary) }
 {
+    // For the prover alone: servers are from 1 to 99.
     server.number();
     primary.number();
     Tables {

@@ -21,7 +21,7 @@ pub struct Puts<R> {
     behind: Vec<R>,
 }
 
-/// Makes equal rows, and the room to put them. Where the table is in the order of its keys, they are put in that order.
+/// Makes equal rows, and the room to put them. If the table is in the order of its keys, they are put in that order.
 pub fn prepare<R: TableRow>(
     alloc: Global,
     rows: &mut Vec<R>,
@@ -41,7 +41,7 @@ pub fn prepare<R: TableRow>(
     Ok(Puts { left, behind })
 }
 
-/// Equal rows, in the order of their keys where the table is in this order and no two of them have one key.
+/// Equal rows, in the order of their keys if the table is in this order and no two of them have one key.
 fn ordered_copies<R: TableRow>(
     alloc: Global,
     news: &[R],
@@ -113,7 +113,7 @@ fn put_row<R: TableRow>(rows: &mut Vec<R>, behind: &mut Vec<R>, row: R, is_order
     put_ahead(rows, behind, row);
 }
 
-/// Moves the place back until all rows in front of it precede the row: to the start, where the order of rows isn't known.
+/// Moves the place back until all rows in front of it precede the row: to the start, if the order of rows isn't known.
 fn go_back<R: TableRow>(rows: &mut Vec<R>, behind: &mut Vec<R>, row: &R, is_ordered: bool)
     requires room { vec_len rows.old + vec_len behind.old < vec_capacity rows.old }
     requires spare { vec_len rows.old + vec_len behind.old ≤ vec_capacity behind.old }
