@@ -1,9 +1,5 @@
-//! One replica's working value: all its tables as plain lists, over which each call makes the part that it needs.
-//!
-//! It stands on `mr_part`, whose calls it makes, on `mr_lists`, which makes changes in lists, and on `mr_audit`, which tests whether tables
-//! agree; the keepers of `mr_store` load desks.
-//! Contracts see a desk as its tables (specs/Desk.antt); each call of it is one step of the definitions, for every replica that the
-//! tables stand for (`DeskTakesStep`).
+//! The desk: all tables of one replica as plain lists, over which each call makes the part that it needs.
+//! It stands on `mr_part`, `mr_lists` and `mr_audit`; the keepers of `mr_store` load desks. README.md has lines of use, and what is proved.
 #![tactic(auto)]
 
 mod calls;

@@ -1,11 +1,6 @@
-//! Rows of a replica's tables in a SQL database: how they are read, put and taken away.
-//!
-//! It stands on `mr_tables`, which has the rows, and on the kit's `sqlite`; `mr_sql`, whose keeper has such a database, stands above it.
-//! Contracts see the database through `tables_in` (specs/Database.antt), which makes canonical tables of its rows; the tables themselves are
-//! in specs/Schema.antt, their rows as cells in specs/RowCells.antt, and what limits rows have in specs/RowLimits.antt. Seven tables are alike
-//! (trait `StoredRow`): what differs of them, their SQL texts above all, stands in src/table_rows.rt and src/cancel_rows.rt; `meta` has one
-//! row. `write_log` and `undo`, of the first schema, have no rows. All is read and put by statements under our schema; `mr_first`, which has
-//! the first schema's, uses the reading of cells (src/cells.rt, src/numbers.rt) and what is proved of any table.
+//! Rows of a replica's tables in a SQL database: how they are read, put and taken away, by statements under our schema.
+//! It stands on `mr_tables` and the kit's `sqlite`; `mr_first` and `mr_sql` stand above it. README.md says which definitions contracts cite, and what is
+//! proved.
 #![tactic(auto)]
 
 mod actions;

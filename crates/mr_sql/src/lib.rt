@@ -1,9 +1,6 @@
-//! A keeper of a replica's tables in a SQL database.
-//!
-//! It stands on `mr_store`, whose trait `Keeper` it meets, on `mr_rows`, which reads and puts the rows of the tables, on `mr_first`, which
-//! moves up those of the first schema, on `mr_disk`, which opens the files, and on the kit's `sqlite`; programs stand above it. Contracts see
-//! the database through `tables_in` of `mr_rows`. Here the tables are made, those that are found are taken or refused, and what a command
-//! needs is asked for; a change is one transaction.
+//! A keeper of a replica's tables in a SQL database: tables are made, or found and taken or refused; a change is one transaction.
+//! It stands on `mr_store`, `mr_rows`, `mr_first`, `mr_disk` and the kit's `sqlite`; programs stand above it. README.md has lines of use, and what is
+//! proved.
 #![tactic(auto)]
 
 mod adopt;

@@ -1,9 +1,5 @@
-//! Rows of the tables that stand for a replica, what a command changes in them, and the values that rows tell: writes, choices,
-//! tallies and boards.
-//!
-//! It stands on `mr_replay`, the board; `mr_audit`, `mr_part` and the keepers of tables stand above it.
-//! Contracts see rows and tables as the definitions do, and a change of them as a record (specs/Change.antt). The modules that are
-//! public are there for `mr_part`, which makes rows of its own values, and reads these off rows.
+//! Rows of the tables that stand for a replica, what a command changes in them, and what rows tell: writes, choices, counts, boards.
+//! It stands on `mr_replay`; all that keeps or reads tables stands above it. README.md has lines of use, and what is proved.
 #![tactic(auto)]
 
 ghost use Rattle.mr_tables.specs.TableLaws.{RowsAreWithin, RowsTellTheBoard};
