@@ -1,4 +1,4 @@
--- The kept writes in the order in which a replica executes them: what a desk's log holds.
+-- The kept writes in the order in which a replica executes them: the rows of the log.
 use Rattle.std.specs.Prelude.{◌≡◌, ◌<◌, ◌⊎◌, List, [], ◌∷◌, ◌++◌, take, drop, map, filter_map}
 use Rattle.std.specs.List.{AllByRecursion}
 use Rattle.mr_model.specs.Writes.{Write}
