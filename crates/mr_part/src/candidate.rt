@@ -127,6 +127,7 @@ impl Candidate {
             → ShowsTaken a inside self.old p → TakesItem a inside line p (ItemOfBatch.W write.now) result self.new }
         ensures own { NeverStore result }
     {
+        // For the prover alone: the write is within its limits.
         write.is_within_limits();
         if !self.judge_write(line, write)? {
             return Ok(());

@@ -11,7 +11,7 @@ use mr_base::{Item, Refusal, Write, WriteId};
 use mr_tables::summary::Summary;
 use std::alloc::Global;
 
-/// Why the first line of a batch that is refused is refused, by the numbers and kept writes before it. That doesn't hang on memory: where it takes
+/// Why the first line of a batch that is refused is refused, by the numbers and kept writes before it. That doesn't hang on memory: if it takes
 /// no places of the kept writes, they are searched one after the other. A batch that repeats a line of its own is searched so too.
 pub(crate) fn due_line(
     alloc: Global,

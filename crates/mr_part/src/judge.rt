@@ -34,7 +34,7 @@ pub(crate) fn judge_write(
     Ok(true)
 }
 
-/// Whether a known write is to be skipped: it is where it is kept just so, or dropped.
+/// Whether a known write is to be skipped: it is if it is kept just so, or dropped.
 fn judge_known(line: u64, write: &Write, kept: Option<&Write>) -> Result<bool, Refusal>
     ensures verdict { result ≡ known_verdict line write.now (option_copied kept.entry) }
     ensures own { NeverStore result }
@@ -87,7 +87,7 @@ pub(crate) fn judge_commit(
     Ok(true)
 }
 
-/// Whether a known commit is to be skipped: it is where it is of this id.
+/// Whether a known commit is to be skipped: it is if it is of this id.
 fn judge_there(line: u64, is_there: bool) -> Result<bool, Refusal>
     ensures verdict { result ≡ there_verdict line is_there }
     ensures own { NeverStore result }

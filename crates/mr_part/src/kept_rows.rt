@@ -18,7 +18,7 @@ use mr_tables::reading::write_of;
 use mr_tables::{ActionCells, LogRow};
 use std::alloc::Global;
 
-/// A kept write as `log` tells it. `seq` is its commit number, 0 where it is tentative.
+/// A kept write as `log` tells it. `seq` is its commit number, 0 if it is tentative.
 #[derive(Drop)]
 pub struct KeptRow {
     pub write: Write,
@@ -67,7 +67,7 @@ pub fn sort_rows(rows: &mut Vec<KeptRow>)
     rows.sort_unstable_by_key(|row| row.place());
 }
 
-/// The kept writes of the rows of `log`, in the order of these. Refused where a row is that of no write.
+/// The kept writes of the rows of `log`, in the order of these. Refused if a row is that of no write.
 pub fn kept_rows(alloc: Global, logs: &[LogRow]) -> Result<Vec<KeptRow>, Refusal>
     ensures rows { (a : Replica) → IsReplica a → logs.now ≡ map (log_row a) (kept a) → IfOk result (λ rows. rows.items ≡ map (kept_row_of a) (kept a)) }
     ensures only { (a : Replica) → IsReplica a → logs.now ≡ map (log_row a) (kept a) → IfErr result (λ e. e ≡ Refusal.OutOfMemory) }
@@ -83,7 +83,7 @@ pub fn kept_rows(alloc: Global, logs: &[LogRow]) -> Result<Vec<KeptRow>, Refusal
     Ok(rows)
 }
 
-/// The kept write of a row of `log`. Refused where it is that of no write.
+/// The kept write of a row of `log`. Refused if it is that of no write.
 pub fn kept_row(alloc: Global, log: &LogRow) -> Result<KeptRow, Refusal>
     ensures read { (w : WriteOfRoom) (place : PlaceOfWrite) (seq : ℕ) → IsTrue (is_write w) → log.now ≡ log_row_with w place seq
         → OrOutOfMemory result (Ok (kept_row_with w seq place)) }
@@ -175,7 +175,7 @@ pub fn row_ids(alloc: Global, rows: &[KeptRow]) -> Result<Vec<WriteId>, Refusal>
     Ok(ids)
 }
 
-/// What a refusal of a row's part is told as: the store's, but for want of memory.
+/// What a refusal of a row's part is reported as: the store's, or out of memory.
 pub fn of_store(refusal: Refusal) -> Refusal
     ensures memory { refusal ≡ Refusal.OutOfMemory → result ≡ Refusal.OutOfMemory }
     ensures store { refusal ≢ Refusal.OutOfMemory → result ≡ Refusal.Store }

@@ -17,7 +17,7 @@ use mr_base::{Refusal, Write, WriteId};
 use std::alloc::Global;
 use std::collections::BTreeMap;
 
-/// A kept write with its commit number, 0 where it is tentative.
+/// A kept write with its commit number, 0 if it is tentative.
 #[derive(Drop)]
 pub struct NumberedWrite {
     pub write: Write,

@@ -19,7 +19,7 @@ use crate::touched::{IdSet, Touched, add_if_named};
 use mr_base::{Item, Refusal, RoomName, Write};
 use std::alloc::Global;
 
-/// The rooms whose writes the items may move, each once, where so many commits are known: those of their writes, and those of
+/// The rooms whose writes the items may move, each once, if so many commits are known: those of their writes, and those of
 /// these kept writes that new commits name.
 pub fn rooms_touched(
     alloc: Global,
@@ -57,7 +57,7 @@ fn add_rows(
     Ok(())
 }
 
-/// Whether a tentative write may move, where the items touch these rooms and have this tail.
+/// Whether a tentative write may move, if the items touch these rooms and have this tail.
 pub fn may_move(write: &Write, rooms: &RoomSet, tail: &Tail) -> bool
     ensures { (touched : List Text) (items : List ItemOfBatch) (commits : ℕ) → IsSetOf rooms.now touched → IsTail tail.now commits items
         → result ≡ moves_in touched items commits write.now }
@@ -74,7 +74,7 @@ pub fn moves_row(row: &KeptRow, rooms: &RoomSet, tail: &Tail) -> bool
     row.seq == 0 && may_move(&row.write, rooms, tail)
 }
 
-/// The writes that are executed anew, where so many commits were known and the items touch these rooms: the new commits, and
+/// The writes that are executed anew, if so many commits were known and the items touch these rooms: the new commits, and
 /// behind them the tentative ones that may move.
 pub fn again_in(
     alloc: Global,
@@ -93,7 +93,7 @@ pub fn again_in(
     Ok(writes)
 }
 
-/// The same, where these are the rooms that the items touch, and this is their tail.
+/// The same, if these are the rooms that the items touch, and this is their tail.
 pub fn writes_anew(
     alloc: Global,
     kept: &[NumberedWrite],

@@ -35,7 +35,7 @@ impl Named {
         Ok(named)
     }
 
-    /// Whether the write of this server and count, which has this commit number, 0 where it is tentative, is named: by its id or by its
+    /// Whether the write of this server and count, which has this commit number, 0 if it is tentative, is named: by its id or by its
     /// number.
     pub fn has(&self, server: ServerId, n: u32, number: u64) -> bool
         ensures { result ≡ has_named self.now (record { server = server; n = n }) number }

@@ -112,7 +112,7 @@ impl Outgoing {
         Ok(())
     }
 
-    /// The commits of these writes, numbered from `first` on, each behind its write where the position lacks that.
+    /// The commits of these writes, numbered from `first` on, each behind its write if the position lacks that.
     fn push_commits(
         &mut self,
         position: &Position,
@@ -135,7 +135,7 @@ impl Outgoing {
     }
 }
 
-/// What a replica with these numbers and these kept writes has for one at the position, where no commit that is asked for
+/// What a replica with these numbers and these kept writes has for one at the position, if no commit that is asked for
 /// is dropped.
 pub fn outgoing_for(
     alloc: Global,

@@ -35,7 +35,7 @@ impl Part {
         Ok(rooms)
     }
 
-    /// What undoes the tentative writes that the items may move, where they touch these rooms: in the order of execution, and by
+    /// What undoes the tentative writes that the items may move, if they touch these rooms: in the order of execution, and by
     /// rooms.
     pub(crate) fn undone_by(
         &self,

@@ -18,7 +18,7 @@ use mr_tables::rooms::is_known;
 impl Part {
     /// Accepts a cancel of a booking of the room, which has to be known: it becomes the last write of the order, with the next
     /// stamp of the own server. The answer is its id, and what that changes in the tables: the change puts one row into `cancels`,
-    /// which says what became of it. Where it takes its target back, it moves that from `booking` to `cancelled`.
+    /// which says what became of it. If it takes its target back, it moves that from `booking` to `cancelled`.
     pub fn cancel(&self, room: RoomName, target: WriteId) -> Result<(WriteId, Change), Refusal>
         ensures step { TakesPart (OfTarget target) (cancel_request room target) (λ a done. outcome_at_room room a done.0) (λ done. done.1) self.now result }
         ensures told { (a : Replica) → IsReplica a → IsPartOf self.now (OfTarget target) a
@@ -43,6 +43,7 @@ impl Part {
         }
         let stamp = self.summary.next_stamp()?;
         let write = Write::cancel(stamp, room, target);
+        // For the prover alone: the write is within its limits.
         write.is_within_limits();
         let change = self.accept(&write)?;
         Ok((stamp.id(), change))

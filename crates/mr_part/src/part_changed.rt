@@ -39,7 +39,7 @@ pub(crate) fn changed_of(
     Ok(changed)
 }
 
-/// The same, where the rows that undid the writes stand by their ids.
+/// The same, if the rows that undid the writes stand by their ids.
 fn changed_by(
     alloc: Global,
     was: &RowsById,

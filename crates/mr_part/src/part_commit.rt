@@ -13,7 +13,7 @@ use mr_base::Refusal;
 use mr_tables::Change;
 
 impl Part {
-    /// Commits the first k tentative writes, or all where there are fewer, and answers how many they are, and what that
+    /// Commits the first k tentative writes, or all if there are fewer, and answers how many they are, and what that
     /// changes in the tables.
     pub fn commit(&self, k: u64) -> Result<(u64, Change), Refusal>
         ensures step { TakesPart (NextCommits k) (λ a. commit a k) (λ _ done. CommittedIs done.0) (λ done. done.1) self.now result }
@@ -21,6 +21,7 @@ impl Part {
         ensures due { self.now.summary.server ≢ self.now.summary.primary → result ≡ Err Refusal.NotPrimary }
         ensures own { NeverStore result }
     {
+        // For the prover alone: clauses speak of `k`, and the code has no use for it.
         let _ = k;
         if self.summary.server != self.summary.primary {
             return Err(Refusal::NotPrimary);

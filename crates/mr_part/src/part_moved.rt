@@ -19,7 +19,7 @@ use std::alloc::Global;
 
 /// What a batch changes in the tables that leads from these numbers and known rooms to what is reached: on the board, which has the
 /// bookings that it needs, these executions are undone, and these writes are executed, the new commits first, room by room. A write that
-/// gets the place and the number that it had keeps its row in the log, and isn't put; a booking that they cancel is put alone, where
+/// gets the place and the number that it had keeps its row in the log, and isn't put; a booking that they cancel is put alone, if
 /// another cancel took that back before.
 pub(crate) fn moved(
     alloc: Global,

@@ -6,7 +6,7 @@ use crate::{Part, Scope};
 use mr_base::WriteId;
 
 impl Part {
-    /// The id that a submission or a cancel would get, where the scope is that of one and neither the own server's count nor the clock
+    /// The id that a submission or a cancel would get, if the scope is that of one and neither the own server's count nor the clock
     /// is at its limit.
     pub fn id_given(&self, scope: &Scope<'_>) -> Option<WriteId>
         ensures { result ≡ id_given (scope_of scope.now) self.now.summary }

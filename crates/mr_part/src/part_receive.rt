@@ -41,6 +41,7 @@ impl Part {
             → (receive_batch a batch.now).reply ≡ Refused r → IsRefused result r }
         ensures own { NeverStore result }
     {
+        // For the prover alone: the batch is within its limits.
         batch.is_within_limits();
         let Some(header) = batch.header else {
             return Ok((0, 0, no_change(self.alloc, &self.summary)));
@@ -68,7 +69,7 @@ impl Part {
         Ok(taken)
     }
 
-    /// The same, where the items touch these rooms, and these executions are undone in them, which stand there by rooms too. The
+    /// The same, if the items touch these rooms, and these executions are undone in them, which stand there by rooms too. The
     /// kept writes and the board are moved into what is reached.
     fn take_undone(
         self,

@@ -16,7 +16,7 @@ impl Part {
     /// the tables.
     pub fn truncate(&self, number: u64) -> Result<(u64, Change), Refusal>
         ensures step { TakesPart (UpTo number) (λ a. truncate a number) (λ _ done. DroppedIs done.0) (λ done. done.1) self.now result }
-        // A refusal that is due is returned without memory, and so is the answer where nothing changes.
+        // A refusal that is due is returned without memory, and so is the answer if nothing changes.
         ensures due_primary { self.now.summary.server ≡ self.now.summary.primary → result ≡ Err Refusal.PrimaryKeepsAll }
         ensures due_beyond { self.now.summary.server ≢ self.now.summary.primary → self.now.summary.commits < number → result ≡ Err Refusal.BeyondCommitted }
         ensures same { self.now.summary.server ≢ self.now.summary.primary → number ≤ self.now.summary.commits → number ≤ self.now.summary.dropped

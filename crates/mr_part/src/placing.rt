@@ -87,7 +87,7 @@ fn booking_row(
     })
 }
 
-/// The rows that a write puts beside its own, where this undoes it, on the board in front of it: that of the booking that it took
+/// The rows that a write puts beside its own, if this undoes it, on the board in front of it: that of the booking that it took
 /// back, if it is a cancel that is done.
 pub fn taken_rows(
     alloc: Global,
@@ -163,7 +163,7 @@ pub fn cancellers(
     Ok(bys)
 }
 
-/// The change from the old numbers to the new ones, with these rooms more, where these writes stand behind the old commits, and the board
+/// The change from the old numbers to the new ones, with these rooms more, if these writes stand behind the old commits, and the board
 /// tells which cancels took them back.
 pub fn rewritten(
     alloc: Global,

@@ -27,7 +27,7 @@ pub struct BatchScope {
 }
 
 impl BatchScope {
-    /// That of these items, where so many commits are known. Of the rows of `log` those have to be there whose ids the items name.
+    /// That of these items, if so many commits are known. Of the rows of `log` those have to be there whose ids the items name.
     pub fn of(
         alloc: Global,
         items: &[Item],
@@ -56,7 +56,7 @@ impl BatchScope {
     }
 }
 
-/// The rooms whose writes the items may move, where so many commits are known: those of their writes, and those of the rows that new
+/// The rooms whose writes the items may move, if so many commits are known: those of their writes, and those of the rows that new
 /// commits name. The cost goes by the items and the rows, and not by the one times the other.
 fn touched_rooms(
     alloc: Global,

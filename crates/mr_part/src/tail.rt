@@ -17,7 +17,7 @@ pub enum Tail {
     Nothing,
 }
 
-/// The tail of these items, where so many commits are known.
+/// The tail of these items, if so many commits are known.
 pub fn tail_of(items: &[Item], commits: u64) -> Tail
     ensures { IsTail result commits (map item_of items.now) }
 {

@@ -56,7 +56,7 @@ fn if_of<'a>(row: Option<&'a Row>, room: &RoomName) -> Option<&'a Row>
     }
 }
 
-/// The rows of the bookings that these writes cancel, as the board tells them, where other cancels took these back before.
+/// The rows of the bookings that these writes cancel, as the board tells them, if other cancels took these back before.
 pub fn moved_targets(
     alloc: Global,
     summary: &Summary,

@@ -23,7 +23,7 @@ pub struct Touched {
 }
 
 impl Touched {
-    /// What these items touch, where so many commits are known.
+    /// What these items touch, if so many commits are known.
     pub fn by(alloc: Global, items: &[Item], commits: u64) -> Result<Touched, Refusal>
         ensures touched { IfOk result (λ touched. IsTouchedBy touched commits (map item_of items.now)) }
         ensures only { IfErr result (λ e. e ≡ Refusal.OutOfMemory) }

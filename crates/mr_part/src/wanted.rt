@@ -29,7 +29,7 @@ pub(crate) struct Wanted {
 }
 
 impl Wanted {
-    /// What a command of this scope needs of these tables. Refused where a row of `log` in scope breaks its limits.
+    /// What a command of this scope needs of these tables. Refused if a row of `log` in scope breaks its limits.
     pub(crate) fn of(alloc: Global, scope: &Scope<'_>, tables: &Tables) -> Result<Wanted, Refusal>
         ensures wanted { IfOk result (λ wanted. IsWanted wanted (scope_of scope.now) tables.now) }
         ensures only { (a : Replica) → IsReplica a → HasRowsInScope tables.now (scope_of scope.now) a → IfErr result (λ e. e ≡ Refusal.OutOfMemory) }

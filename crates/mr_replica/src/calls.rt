@@ -48,7 +48,7 @@ impl Desk {
     }
 
     /// Accepts a cancel of a booking of the room, which has to be known: it becomes the last write of the order, with the next
-    /// stamp of the own server. The change that is answered puts one row into `cancels`, which says what became of it. Where it
+    /// stamp of the own server. The change that is answered puts one row into `cancels`, which says what became of it. If it
     /// takes its target back, it moves that from `booking` to `cancelled`.
     pub fn cancel(&mut self, room: RoomName, target: WriteId) -> Result<(WriteId, Change), Refusal>
         ensures step { DeskTakesStep (cancel_request room target) (λ a done. outcome_at_room room a done.0) self.old result self.new }
@@ -68,7 +68,7 @@ impl Desk {
         }
     }
 
-    /// Commits the first k tentative writes, or all where there are fewer, and answers how many they are, and what that
+    /// Commits the first k tentative writes, or all if there are fewer, and answers how many they are, and what that
     /// changes in the tables. The order of execution stays, so nothing is executed again.
     pub fn commit(&mut self, k: u64) -> Result<(u64, Change), Refusal>
         ensures step { DeskTakesStep (λ a. commit a k) (λ _ done. CommittedIs done.0) self.old result self.new }
@@ -108,6 +108,7 @@ impl Desk {
         ensures err { OnErr result (self.new ≡ self.old) }
         ensures own { (a : Replica) → StandsFor self.old a → NeverStore result }
     {
+        // For the prover alone: the batch is within its limits.
         batch.is_within_limits();
         match self.part(&Scope::Items(batch.items.as_slice())) {
             Ok(part) => self.changed_by_batch(part.receive(batch)),
@@ -128,9 +129,9 @@ impl Desk {
         }
     }
 
-    /// What a replica at this position lacks: the commits above its own, each behind its write where that is lacked, then
-    /// the tentative writes that it lacks, so many lines at most, in the position's version. It is refused where one of the commits
-    /// is dropped, and where that version can't say one of these writes, which the second always can.
+    /// What a replica at this position lacks: the commits above its own, each behind its write if that is lacked, then
+    /// the tentative writes that it lacks, so many lines at most, in the position's version. It is refused if one of the commits
+    /// is dropped, and if that version can't say one of these writes, which the second always can.
     pub fn batch(&self, position: &Position, max_lines: LineCount) -> Result<Batch, Refusal>
         ensures step { DeskTakesStep (λ a. leave a (batch_reply a position.now max_lines)) (λ _ batch. BatchIs batch) self.now result self.now }
         ensures own { (a : Replica) → StandsFor self.now a → NeverStore result }

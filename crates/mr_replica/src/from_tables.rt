@@ -36,7 +36,7 @@ impl Desk {
     }
 }
 
-/// Equal tables, where their numbers are within the limits of positions, their rows agree with each other, and each can be read.
+/// Equal tables, if their numbers are within the limits of positions, their rows agree with each other, and each can be read.
 fn copy_of_agreeing(alloc: Global, tables: &Tables) -> Result<Tables, Refusal>
     ensures copy { IfOk result (λ copy. copy ≡ tables.now) }
     ensures only { (a : Replica) → IsReplica a → tables.now ≡ tables_of a → IfErr result (λ e. e ≡ Refusal.OutOfMemory) }
@@ -59,7 +59,7 @@ fn copy_of_agreeing(alloc: Global, tables: &Tables) -> Result<Tables, Refusal>
     }
 }
 
-/// Equal tables, where each row can be read.
+/// Equal tables, if each row can be read.
 fn copy_of_read(alloc: Global, tables: &Tables) -> Result<Tables, Refusal>
     ensures copy { IfOk result (λ copy. copy ≡ tables.now) }
     ensures only { (a : Replica) → IsReplica a → tables.now ≡ tables_of a → IfErr result (λ e. e ≡ Refusal.OutOfMemory) }

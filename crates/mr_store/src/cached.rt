@@ -15,9 +15,9 @@ use std::marker::Model;
 /// A keeper with its rows in memory, a write-through cache. What is asked is answered from memory, and a change is made in the keeper
 /// first and then in memory: so once its rows are read, the keeper is only written.
 ///
-/// The rows are read at the first question. They are forgotten where a change fails or memory doesn't take it, and where they break
-/// their rules: then the keeper itself is asked, so that it counts the failure. Where memory doesn't take the rows, that call is
-/// refused, and from then on the keeper itself is asked, which wants less; so it is where they aren't in the order of their keys.
+/// The rows are read at the first question. They are forgotten if a change fails or memory doesn't take it, and if they break
+/// their rules: then the keeper itself is asked, so that it counts the failure. If memory doesn't take the rows, that call is
+/// refused, and from then on the keeper itself is asked, which wants less; so it is if they aren't in the order of their keys.
 #[derive(Drop)]
 pub struct Cached<K: Keeper> {
     alloc: Global,
@@ -58,7 +58,7 @@ impl<K: Keeper> Cached<K> {
         self.keeper
     }
 
-    /// Takes the rows out of memory, or reads them where they aren't there. It is None where the keeper itself is to be asked.
+    /// Takes the rows out of memory, or reads them if they aren't there. It is None if the keeper itself is to be asked.
     fn recall(&mut self) -> Result<Option<Remembered>, Fault>
         ensures quiet { IsQuiet K.tables K.failures K.is_clean K.is_open K.may_leave (NeverFails K.Keeper) self.old self.new result }
         ensures rows { IfOk result (λ memory. IsMemoryOf K.Keeper self.new memory) }
@@ -85,7 +85,7 @@ impl<K: Keeper> Cached<K> {
     }
 }
 
-/// Makes the change in the keeper first and then in the rows in memory. Where the keeper fails to make it, they are forgotten: a
+/// Makes the change in the keeper first and then in the rows in memory. If the keeper fails to make it, they are forgotten: a
 /// failure may have shut it, and then it is the keeper that has to answer what is asked from now on.
 fn write_through<K: Keeper>(
     keeper: &mut K,
@@ -102,7 +102,7 @@ fn write_through<K: Keeper>(
     Ok(())
 }
 
-/// Makes the change in the rows in memory, if there are any. Where memory doesn't take it, they are forgotten.
+/// Makes the change in the rows in memory, if there are any. If memory doesn't take it, they are forgotten.
 fn change_memory(memory: Option<Remembered>, change: &Change) -> Option<Remembered>
     ensures { IsMemoryAfter change.now memory result }
 {

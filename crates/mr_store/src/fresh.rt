@@ -69,7 +69,7 @@ pub(crate) fn settle_log(main: &mut Tables, fresh: &mut FreshRows) -> Result<(),
     settle(&mut main.log, &mut fresh.log)
 }
 
-/// Moves fresh bookings into their list, and their marks into the list of marks. Where memory doesn't take these, they are forgotten.
+/// Moves fresh bookings into their list, and their marks into the list of marks. If memory doesn't take these, they are forgotten.
 fn settle_bookings(
     alloc: Global,
     rows: &mut Vec<BookingRow>,
@@ -92,7 +92,7 @@ fn settle_bookings(
     Ok(())
 }
 
-/// The marks with those of the fresh rows at their place, where there are marks and memory takes these.
+/// The marks with those of the fresh rows at their place, if there are marks and memory takes these.
 fn with_fresh_marks(
     alloc: Global,
     marks: Option<Vec<Mark>>,
@@ -163,7 +163,7 @@ fn change_with_fresh(
     )
 }
 
-/// Takes the bookings of these writes away, and puts the others then. The marks are forgotten where more than one booking of the list
+/// Takes the bookings of these writes away, and puts the others then. The marks are forgotten if more than one booking of the list
 /// changes. After a failure the rows are of no use.
 fn change_bookings(
     alloc: Global,

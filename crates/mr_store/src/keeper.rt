@@ -19,7 +19,7 @@ use mr_tables::{BookingRow, CancelRow, CancelledRow, Change, ErrorRow, PlaceRow,
 /// Why a keeper answers nothing.
 #[derive(Clone, Copy, Debug, PartialEq, Eq)]
 pub enum Fault {
-    /// Memory was wanting.
+    /// There was no memory.
     OutOfMemory,
     /// The store failed for another cause, or its rows break their rules.
     Store,
@@ -40,7 +40,7 @@ impl From<Fault> for Refusal {
 }
 
 impl Fault {
-    /// A failure of the store, which is counted. Where the count is full it is told as want of memory.
+    /// A failure of the store, which is counted. If the count is full it is reported as out of memory.
     pub fn counted(failures: &mut u64) -> Fault
         ensures counted { failures.new ≡ failures_for result failures.old }
         ensures store { failures.old < 18_446_744_073_709_551_615 → result ≡ Fault.Store }
@@ -69,7 +69,7 @@ pub trait Keeper {
     // what a crash at this moment may leave
     ghost may_leave: { Self → Tables → Type 0 };
 
-    // it never answers that the store failed, where its tables stand for a replica
+    // it never answers that the store failed, if its tables stand for a replica
     ghost never_fails: { Type 0 };
 
     /// The desk with these tables.
@@ -78,7 +78,7 @@ pub trait Keeper {
         ensures loaded { is_clean self.new → is_open self.old → (a : Replica) → Stands (tables self.old) a → IfOk result (λ desk. StandsFor desk a) }
         ensures within { IfOk result IsWithinLimits };
 
-    /// The part of the tables that a command of this scope needs. Where a row has the id that the command would give, as no replica's
+    /// The part of the tables that a command of this scope needs. If a row has the id that the command would give, as no replica's
     /// tables have, it is refused as a failure of the store.
     fn load_part(&mut self, scope: &Scope<'_>) -> Result<Part, Fault>
         ensures quiet { IsQuiet tables failures is_clean is_open may_leave never_fails self.old self.new result }
@@ -96,7 +96,7 @@ pub trait Keeper {
         ensures quiet { IsQuiet tables failures is_clean is_open may_leave never_fails self.old self.new result }
         ensures bookings { is_clean self.new → is_open self.old → IfOk result (λ rows. AreBookings room.now day (tables self.old) rows.items) };
 
-    /// The row of the write with this id, where it is of that room.
+    /// The row of the write with this id, if it is of that room.
     fn place_of(&mut self, room: &RoomName, id: WriteId) -> Result<Option<PlaceRow>, Fault>
         ensures quiet { IsQuiet tables failures is_clean is_open may_leave never_fails self.old self.new result }
         ensures place { is_clean self.new → is_open self.old → IfOk result (λ row. IsPlaceOf room.now id (tables self.old) row) };

@@ -60,8 +60,8 @@ impl ListKeeper {
     }
 }
 
-/// The fault for a refusal of the tables: want of memory, or that the store failed, which is counted. Where the count is full
-/// it is told as want of memory too.
+/// The fault for a refusal of the tables: out of memory, or that the store failed, which is counted. If the count is full
+/// it is reported as out of memory too.
 fn fault_of(refusal: Refusal, failures: &mut u64) -> Fault
     ensures counted { failures.new ≡ failures_for result failures.old }
     ensures memory { refusal ≡ Refusal.OutOfMemory → result ≡ Fault.OutOfMemory }

@@ -7,7 +7,7 @@ use mr_tables::BookingRow;
 use std::alloc::AllocError;
 use std::cmp::Ordering;
 
-/// Sorts the rows by day, start, server and count. Where memory is wanting for it, they are the same rows in some order.
+/// Sorts the rows by day, start, server and count. If there is no memory for it, they are the same rows in some order.
 pub fn sort_bookings(rows: &mut Vec<BookingRow>) -> Result<(), AllocError>
     ensures same { IsPermutation rows.old.items rows.new.items }
     ensures sorted { OnOk result (IsSortedBy booking_before rows.new.items) }

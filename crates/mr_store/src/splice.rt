@@ -57,7 +57,7 @@ pub(crate) fn settle<R>(rows: &mut Vec<R>, fresh: &mut Fresh<R>) -> Result<(), A
     Ok(())
 }
 
-/// Takes the rows of these writes away, and puts the others then: at the place of the fresh rows where all of them belong there, else
+/// Takes the rows of these writes away, and puts the others then: at the place of the fresh rows if all of them belong there, else
 /// in the list. It answers whether the list is the same. After a failure the rows are of no use.
 pub(crate) fn change_spliced<R: IdRow>(
     alloc: Global,
@@ -81,7 +81,7 @@ pub(crate) fn change_spliced<R: IdRow>(
     Ok(false)
 }
 
-/// The same where there are no fresh rows: a place is chosen for them, where all belong to one.
+/// The same if there are no fresh rows: a place is chosen for them, if all belong to one.
 fn change_settled<R: IdRow>(
     alloc: Global,
     rows: &mut Vec<R>,
@@ -105,7 +105,7 @@ fn change_settled<R: IdRow>(
     Ok(())
 }
 
-/// Takes the row of this write away, if there is one: no other row is looked at, and only those behind it move. It answers where the
+/// Takes the row of this write away, if there is one: no other row is looked at, and only those behind it move. It answers if the
 /// row stood in the list.
 pub(crate) fn take_out_spliced<R: IdRow>(
     rows: &mut Vec<R>,
@@ -126,7 +126,7 @@ pub(crate) fn take_out_spliced<R: IdRow>(
     Some(place)
 }
 
-/// Takes the row of this write out of rows in the order of their ids, if it is there, and answers where it stood.
+/// Takes the row of this write out of rows in the order of their ids, if it is there, and answers if it stood.
 fn take_out<R: IdRow>(rows: &mut Vec<R>, id: WriteId) -> Option<usize>
     requires { InOrder R.before R.key rows.old.items }
     ensures without { rows.new.items ≡ rows_without R.id (id ∷ []) rows.old.items }

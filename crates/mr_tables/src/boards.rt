@@ -12,7 +12,7 @@ use mr_replay::{Board, Row, Standing, Trace};
 use std::alloc::Global;
 
 /// The board that the rows of the tables tell: a row for each booking, and one for each cancel that found nothing to take back.
-/// Refused where one is out of the limits.
+/// Refused if one is out of the limits.
 pub fn board_with(alloc: Global, tables: &Tables) -> Result<Board, Refusal>
     ensures board { AreWithin tables.now → IfOk result (λ board. board ≡ board_of tables.now) }
     ensures only { AreWithin tables.now → IfErr result (λ e. e ≡ Refusal.OutOfMemory) }
@@ -25,7 +25,7 @@ pub fn board_with(alloc: Global, tables: &Tables) -> Result<Board, Refusal>
     Ok(board)
 }
 
-/// Puts the rows of `booking` on the board. Refused where one is out of the limits.
+/// Puts the rows of `booking` on the board. Refused if one is out of the limits.
 pub fn put_bookings(board: &mut Board, alloc: Global, rows: &[BookingRow]) -> Result<(), Refusal>
     ensures put { AllByRecursion (λ r. IsRowWithin r.n r.start) rows.now → OnOk result (board.new ≡ put_entries (map booking_entry rows.now) board.old) }
     ensures only { AllByRecursion (λ r. IsRowWithin r.n r.start) rows.now → IfErr result (λ e. e ≡ Refusal.OutOfMemory) }
@@ -46,7 +46,7 @@ pub fn put_booking(board: &mut Board, alloc: Global, row: &BookingRow) -> Result
     board.put(id, row)
 }
 
-/// Puts the rows of `errorlog` on the board. Refused where one is out of the limits.
+/// Puts the rows of `errorlog` on the board. Refused if one is out of the limits.
 pub fn put_errors(board: &mut Board, alloc: Global, rows: &[ErrorRow]) -> Result<(), Refusal>
     ensures put { AllByRecursion (λ r. IsRowWithin r.n r.start) rows.now → OnOk result (board.new ≡ put_entries (map error_entry rows.now) board.old) }
     ensures only { AllByRecursion (λ r. IsRowWithin r.n r.start) rows.now → IfErr result (λ e. e ≡ Refusal.OutOfMemory) }
@@ -74,7 +74,7 @@ fn put_error(board: &mut Board, alloc: Global, row: &ErrorRow) -> Result<(), Ref
     board.put(id, row)
 }
 
-/// Puts the rows of `cancelled` on the board. Refused where one is out of the limits.
+/// Puts the rows of `cancelled` on the board. Refused if one is out of the limits.
 pub fn put_cancelled(board: &mut Board, alloc: Global, rows: &[CancelledRow]) -> Result<(), Refusal>
     ensures put { AllByRecursion (λ r. IsRowWithin r.n r.start) rows.now → OnOk result (board.new ≡ put_entries (map cancelled_entry rows.now) board.old) }
     ensures only { AllByRecursion (λ r. IsRowWithin r.n r.start) rows.now → IfErr result (λ e. e ≡ Refusal.OutOfMemory) }
@@ -119,7 +119,7 @@ fn put_cancel(board: &mut Board, alloc: Global, row: &CancelRow) -> Result<(), R
     board.put(id, Row { room, trace })
 }
 
-/// The id and the slot of a row. Refused where one is out of the limits.
+/// The id and the slot of a row. Refused if one is out of the limits.
 fn place_of(server: ServerId, n: u32, day: Day, start: u32) -> Result<(WriteId, Slot), Refusal>
     ensures { IsRowWithin n start → result ≡ Ok (record { server = server; n = n }, record { day = day; start = start }) }
 {

@@ -51,6 +51,7 @@ impl CancelledRow {
         ensures { result ≡ cancelled_id self.now }
     {
         let (server, n) = (self.server, self.n);
+        // For the prover alone: a server is from 1 to 99.
         server.number();
         WriteId { server, n }
     }
@@ -129,7 +130,7 @@ impl CancelledRow {
     }
 }
 
-/// A row of `cancels`: a cancel, and whether it took its target back. `seq` is its commit number, 0 where it is tentative.
+/// A row of `cancels`: a cancel, and whether it took its target back. `seq` is its commit number, 0 if it is tentative.
 #[derive(Debug, Drop)]
 pub struct CancelRow {
     pub server: ServerId,
@@ -167,6 +168,7 @@ impl CancelRow {
         ensures { result ≡ cancel_id self.now }
     {
         let (server, n) = (self.server, self.n);
+        // For the prover alone: a server is from 1 to 99.
         server.number();
         WriteId { server, n }
     }

@@ -2,7 +2,7 @@ use crate::{BookingRow, CancelRow, CancelledRow, ErrorRow, LogRow, MetaRow, Vect
 use mr_base::{RoomName, WriteId};
 use std::marker::Model;
 
-/// What a call of a desk changes in its tables: keys of rows to take away first, and rows to put then, each in the stead of the
+/// What a command changes in a replica's tables: keys of rows to take away first, and rows to put then, each instead of the
 /// row that has its key. A write in `dropped` leaves `log`, one in `unbooked` leaves `booking`, one in `unlogged` leaves
 /// `errorlog`, one in `uncancelled` leaves `cancelled`. Rooms, rows of the vector and those of cancels never leave.
 #[derive(Debug, Drop)]

@@ -25,6 +25,7 @@ pub fn choice_of(meeting: &Meeting, number: u32) -> Option<Slot>
     ensures choice { result ≡ slice_get (choices_of meeting.now) number }
     ensures fits { IfSome result (λ s. s.start + meeting.now.length ≤ 1440) }
 {
+    // For the prover alone: the meeting is within its limits.
     meeting.is_within_limits();
     choice_numbered(meeting, number)
 }

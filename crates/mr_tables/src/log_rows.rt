@@ -59,7 +59,7 @@ impl ActionCells {
     }
 }
 
-/// A row of `log`: a kept write with the place that it has. `seq` is its commit number, 0 where it is tentative.
+/// A row of `log`: a kept write with the place that it has. `seq` is its commit number, 0 if it is tentative.
 #[derive(Debug, Drop)]
 pub struct LogRow {
     pub server: ServerId,

@@ -110,6 +110,7 @@ fn wish_end(meeting: &Meeting) -> u32
     ensures stop { result ≡ meeting.now.wish.start + meeting.now.length }
     ensures fits { result ≤ 1440 }
 {
+    // For the prover alone: the meeting is within its limits.
     meeting.is_within_limits();
     wish_stop(meeting)
 }

@@ -15,7 +15,7 @@ use mr_base::{
 };
 use std::alloc::Global;
 
-/// The write of a row of `log`. Refused where the row is that of no write.
+/// The write of a row of `log`. Refused if the row is that of no write.
 pub fn write_of(alloc: Global, row: &LogRow) -> Result<Write, Refusal>
     ensures read { (w : WriteOfRoom) (place : PlaceOfWrite) (seq : ℕ) → IsTrue (is_write w) → row.now ≡ log_row_with w place seq → OrOutOfMemory result (Ok w) }
 {
@@ -40,7 +40,7 @@ fn cancel_of(
     Ok(Write::cancel(stamp, room, target))
 }
 
-/// The booking of a meeting with these cells. Refused where they are those of no meeting.
+/// The booking of a meeting with these cells. Refused if they are those of no meeting.
 fn booking_of(
     alloc: Global,
     stamp: Stamp,
@@ -96,7 +96,7 @@ fn write_with(
     }
 }
 
-/// The choices with this text: the wish, and the others behind it. Refused where it isn't one of slots.
+/// The choices with this text: the wish, and the others behind it. Refused if it isn't one of slots.
 pub(crate) fn choices_of(alloc: Global, text: &str) -> Result<(Slot, Alternatives), Refusal>
     ensures read { (s : SlotOfDay) (ss : List SlotOfDay) → IsTextOf text.now (s ∷ ss) → OrOutOfMemory result (Ok (s, ss)) }
 {

@@ -141,6 +141,7 @@ impl BookingRow {
         ensures { result ≡ booking_id self.now }
     {
         let (server, n) = (self.server, self.n);
+        // For the prover alone: a server is from 1 to 99.
         server.number();
         WriteId { server, n }
     }
@@ -165,7 +166,7 @@ impl BookingRow {
 }
 
 /// A row of `errorlog`: a request that found no free choice, with its wished slot. `start` and `stop` are minutes of the day,
-/// `seq` is the commit number, 0 where the request is tentative.
+/// `seq` is the commit number, 0 if the request is tentative.
 #[derive(Debug, Drop)]
 pub struct ErrorRow {
     pub room: RoomName,
@@ -207,6 +208,7 @@ impl ErrorRow {
         ensures { result ≡ error_id self.now }
     {
         let (server, n) = (self.server, self.n);
+        // For the prover alone: a server is from 1 to 99.
         server.number();
         WriteId { server, n }
     }

@@ -78,6 +78,7 @@ impl Summary {
         if count >= GREATEST_COUNT {
             return Err(Refusal::CountExhausted);
         }
+        // For the prover alone: a server is from 1 to 99.
         self.server.number();
         Ok(Stamp {
             server: self.server,

@@ -29,7 +29,7 @@ pub fn changed_tallies(
     Ok(rows)
 }
 
-/// Adds the row of a server, where its tally is another one in the second summary.
+/// Adds the row of a server, if its tally is another one in the second summary.
 fn push_changed(
     rows: &mut Vec<VectorRow>,
     old: &Summary,
