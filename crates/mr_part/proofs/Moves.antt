@@ -28,7 +28,6 @@ use Rattle.mr_part.specs.declared.kept_rows.KeptRow.{KeptRow}
 use Rattle.mr_part.specs.KeptRows.{kept_row, row_writes, row_undos}
 use Rattle.mr_part.specs.Logged.{undo_with}
 use Rattle.mr_part.specs.RoomMoves.{rows_of_room}
-use Rattle.mr_part.specs.Named.{names}
 use Rattle.mr_part.specs.Sets.{AreSameRooms}
 use Rattle.mr_part.specs.Taken.{CoversScope, is_inside}
 use Rattle.mr_part.specs.KeptWrites.{numbered_of}

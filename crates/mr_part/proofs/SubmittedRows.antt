@@ -1,5 +1,5 @@
 -- What a submission or a cancel changes in the tables, and what its row tells.
-use Rattle.std.proofs.Common.{◌≡◌, refl, sym, ap, ◌∙◌, subst, ◌+◌, ◌<◌, Bool, true, false, [], ◌∷◌, List, length, ◌⊎◌, inl, inr, Option, None, Some, arith, ◌-◌}
+use Rattle.std.proofs.Common.{◌≡◌, refl, sym, ap, ◌∙◌, subst, ◌+◌, ◌<◌, Bool, true, false, [], ◌∷◌, List, length, ◌⊎◌, inl, inr, Option, None, Some, arith}
 use Rattle.std.proofs.lemmas.Bool.{false_from_ne_true}
 use Rattle.std.specs.List.{cons_option, filter_map}
 use Rattle.mr_model.specs.Slots.{Slot}

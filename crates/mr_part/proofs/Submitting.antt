@@ -1,5 +1,5 @@
 -- A request or a cancel becomes the next write of a replica.
-use Rattle.std.proofs.Common.{◌≡◌, ℕ, ◌+◌, ◌<◌, ◌≤◌, ◌==◌, ◌&&◌, not, nat_le, Bool, true, false, cond, [], ◌∷◌, Result, Ok, Err, ap, refl, sym, ◌∙◌, subst, arith, IsTrue, ◌-◌}
+use Rattle.std.proofs.Common.{◌≡◌, ℕ, ◌+◌, ◌<◌, ◌≤◌, ◌==◌, ◌&&◌, not, nat_le, Bool, true, false, cond, [], ◌∷◌, Result, Ok, Err, ap, refl, sym, ◌∙◌, subst, arith, IsTrue}
 use Rattle.std.proofs.lemmas.Bool.Decides.{nat_tests}
 use Rattle.mr_model.specs.Texts.{Text}
 use Rattle.mr_model.specs.Writes.{Id, Stamp, Write, is_stamp, is_id, id_in, is_room_name, is_meeting, greatest_count, greatest_time}
