@@ -1,7 +1,6 @@
 -- The line that is found is the one that the definitions refuse.
 use Rattle.std.proofs.Common.{◌≡◌, ℕ, zero, suc, ◌+◌, ◌-◌, ◌<◌, ◌≤◌, ◌==◌, ◌⊎◌, not, nat_lt, nat_le, Bool, true, false, cond, List, [], ◌∷◌, ◌++◌, length, map, drop, get_or, Option, Some, None, Result, Ok, Err, ap, refl, sym, ◌∙◌, subst, append_assoc, inl, inr, arith, IsTrue, Bor}
 use Rattle.std.specs.Slice.{IsItemAt}
-use Rattle.std.specs.BTreeMap.{BTreeMap, Updates, get}
 use Rattle.std.specs.List.{list_all, filter}
 use Rattle.std.specs.Option.{option_map, option_copied}
 use Rattle.std.specs.Prelude.{slice_get}
@@ -25,11 +24,9 @@ use Rattle.mr_model.proofs.KnownById.{known_at, known_bounds, with_id, commit_kn
 use Rattle.mr_model.proofs.Members.{has_right, has_split, same_id-true, same_id_refl}
 use Rattle.mr_model.proofs.UniqueReplay.{some_inj, none_some}
 use Rattle.mr_model.proofs.WithWrite.{count-with_write, with_write_has}
-use Rattle.mr_base.specs.Ids.{id_cmp}
 use Rattle.mr_base.specs.RefusalViews.{refusal_of}
 use Rattle.mr_base.specs.declared.refusals.Refusal.{Refusal}
 use Rattle.mr_base.specs.declared.refusals.Refusal.TheVariants.{Gap, OutOfOrder, OwnWrite, PrimaryOnly}
-use Rattle.mr_replay.proofs.IdKeys.{at_is}
 use Rattle.mr_tables.specs.declared.summary.Tally.{Tally}
 use Rattle.mr_tables.specs.declared.summary.Summary.{Summary}
 use Rattle.mr_tables.specs.Summary.{summary_of, tally_at}
@@ -37,7 +34,7 @@ use Rattle.mr_tables.proofs.Summaries.{tally-of, summary-write, summary-commit}
 use Rattle.mr_part.specs.declared.kept_rows.KeptRow.{KeptRow}
 use Rattle.mr_part.specs.Candidate.{write_with_id, known_verdict, there_verdict, write_verdict_with}
 use Rattle.mr_part.specs.Answering.{nothing_taken}
-use Rattle.mr_part.specs.DueLines.{row_with_id, is_row_number, place_from, brought_write, brought_commit, known_write, is_known_commit, verdict_on, noted_if, due_behind, due_from}
+use Rattle.mr_part.specs.DueLines.{row_with_id, is_row_number, place_from, brought_write, brought_commit, write_place_from, write_at, known_write, is_known_commit, verdict_on, noted_if, due_behind, due_from}
 use Rattle.mr_part.specs.KeptRows.{kept_row}
 use Rattle.mr_part.specs.KeptWrites.{is_number_of, numbered_of}
 use Rattle.mr_part.specs.Parts.{kept_in}
@@ -63,12 +60,6 @@ lent_at {X} xs i (Some x) is = sym (there xs i x.now (let e : nat_lt i (length x
     there [] j y h e = absurd (omega arith)
     there (z ∷ zs) zero y h e = ap Some (sym e)
     there (z ∷ zs) (suc j) y h e = there zs j y (omega arith) e
-
--- a row before those whose places are there
-pub places-more : (rows : List KeptRow) (k : ℕ) (row : KeptRow) (old new : BTreeMap Id ℕ) → k < length rows → row ≡ get_or rows k row → Updates id_cmp old new (id_of row.write) (Some k) → ((id : Id) → get id_cmp old id ≡ place_from (k + 1) (drop (k + 1) rows) id)
-    → (id : Id) → get id_cmp new id ≡ place_from k (drop k rows) id
-places-more rows k row old new low is put had id =
-    put.0 id ∙ (λ t. cond (at_is t (id_of row.write) id) (Some k) (had id t)) ∙ ap (λ rs. place_from k rs id) (ap (λ r. r ∷ drop (k + 1) rows) is ∙ sym (drop_more rows k row low))
 
 -- the row of an id is the one at its place
 pub place_found : (rows : List KeptRow) (d k : ℕ) (id : Id) → place_from d rows id ≡ Some k → (j : ℕ) × (k ≡ d + j) × (row_with_id rows id ≡ slice_get rows j)
@@ -126,6 +117,30 @@ first_commit (C s i ∷ done) left q id none = go (s == q) refl (first_commit do
     go : (b : Bool) → (s == q) ≡ b → brought_commit (done ++ C q id ∷ left) q ≡ Some id → cond (s == q) (Some i) (brought_commit (done ++ C q id ∷ left) q) ≡ Some id
     go true e rest = absurd (none i (inl (ap (λ n. C n i) (sym (eqb-true s q e)))))
     go false e rest = cond-false (s == q) (Some i) (brought_commit (done ++ C q id ∷ left) q) e ∙ rest
+
+-- the write of an id is the one at its place
+pub write_found : (xs : List Item) (d k : ℕ) (id : Id) → write_place_from d xs id ≡ Some k → (j : ℕ) × (k ≡ d + j) × (brought_write xs id ≡ write_at xs j)
+write_found [] d k id e = absurd (none_some k e)
+write_found (W w ∷ xs) d k id e = go (same_id (id_of w) id) refl e (write_found xs (d + 1) k id)
+  where
+    go : (b : Bool) → same_id (id_of w) id ≡ b → cond b (Some d) (write_place_from (d + 1) xs id) ≡ Some k → (write_place_from (d + 1) xs id ≡ Some k → (j : ℕ) × (k ≡ d + 1 + j) × (brought_write xs id ≡ write_at xs j))
+        → (j : ℕ) × (k ≡ d + j) × (brought_write (W w ∷ xs) id ≡ write_at (W w ∷ xs) j)
+    go true own f rest = (0, (let n : k ≡ d = sym (some_inj d k f) in omega (arith, n)), cond-true (same_id (id_of w) id) (Some w) (brought_write xs id) own)
+    go false other f rest =
+        let (j, n, is) = rest f in
+        (suc j, omega (arith, n), cond-false (same_id (id_of w) id) (Some w) (brought_write xs id) other ∙ is)
+write_found (C q other ∷ xs) d k id e =
+    let (j, n, is) = write_found xs (d + 1) k id e in
+    (suc j, omega (arith, n), is)
+
+pub write_not_found : (xs : List Item) (d : ℕ) (id : Id) → write_place_from d xs id ≡ None → brought_write xs id ≡ None
+write_not_found [] d id e = refl
+write_not_found (W w ∷ xs) d id e = go (same_id (id_of w) id) refl e (write_not_found xs (d + 1) id)
+  where
+    go : (b : Bool) → same_id (id_of w) id ≡ b → cond b (Some d) (write_place_from (d + 1) xs id) ≡ None → (write_place_from (d + 1) xs id ≡ None → brought_write xs id ≡ None) → brought_write (W w ∷ xs) id ≡ None
+    go true own f rest = absurd (none_some d (sym f))
+    go false other f rest = cond-false (same_id (id_of w) id) (Some w) (brought_write xs id) other ∙ rest f
+write_not_found (C q other ∷ xs) d id e = write_not_found xs (d + 1) id e
 
 -- item by item
 write_behind : (x : Item) (xs : List Item) (id : Id) → brought_write (x ∷ []) id ≡ None → brought_write (x ∷ xs) id ≡ brought_write xs id

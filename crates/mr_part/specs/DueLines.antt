@@ -1,7 +1,8 @@
 -- Why the first line of a batch that is refused is refused, by the numbers and the kept writes of a replica before the batch, and by the batch itself.
-use Rattle.std.specs.Prelude.{◌≡◌, ℕ, ◌+◌, ◌==◌, nat_lt, if◌then◌else◌, Bool, false, List, [], ◌∷◌, find, Option, Some, None, Result, Ok, Err}
+use Rattle.std.specs.Prelude.{◌≡◌, ℕ, ◌+◌, ◌==◌, nat_lt, if◌then◌else◌, Bool, false, List, [], ◌∷◌, find, slice_get, Option, Some, None, Result, Ok, Err}
 use Rattle.std.specs.BTreeMap.{BTreeMap, get}
 use Rattle.std.specs.Option.{option_map}
+use Rattle.std.specs.Ordering.{nat_cmp}
 use Rattle.mr_model.specs.Writes.{Id, Write, id_of, same_id}
 use Rattle.mr_model.specs.Refusals as model
 use Rattle.mr_model.specs.Exchange.{Item, W, C}
@@ -11,6 +12,8 @@ use Rattle.mr_base.specs.RefusalViews.{refusal_of}
 use Rattle.mr_base.specs.declared.refusals.Refusal.{Refusal}
 use Rattle.mr_tables.specs.declared.summary.Summary.{Summary}
 use Rattle.mr_tables.specs.Summary.{tally_at, noted_write, noted_commit}
+use Rattle.mr_part.specs.declared.brought.Brought.{Brought}
+use Rattle.mr_part.specs.declared.due_lines.Found.{Found}
 use Rattle.mr_part.specs.declared.kept_rows.KeptRow.{KeptRow}
 use Rattle.mr_part.specs.Candidate.{write_verdict_with, commit_verdict}
 
@@ -54,6 +57,34 @@ abbrev pub brought_commit : List Item → ℕ → Option Id
 brought_commit [] q = None
 brought_commit (W w ∷ xs) q = brought_commit xs q
 brought_commit (C seq id ∷ xs) q = if seq == q then Some id else brought_commit xs q
+
+-- where the first write of an id stands, if the first item stands at this place
+abbrev pub write_place_from : ℕ → List Item → Id → Option ℕ
+write_place_from k [] id = None
+write_place_from k (W w ∷ xs) id = if same_id (id_of w) id then Some k else write_place_from (k + 1) xs id
+write_place_from k (C seq other ∷ xs) id = write_place_from (k + 1) xs id
+
+abbrev pub write_in : Option Item → Option Write
+write_in None = None
+write_in (Some (W w)) = Some w
+write_in (Some (C seq id)) = None
+
+abbrev pub write_at : List Item → ℕ → Option Write
+write_at xs k = write_in (slice_get xs k)
+
+-- what items bring, if the first of them stands at this place
+pub record IsBroughtFrom (k : ℕ) (brought : Brought) (xs : List Item) : Type 0 where
+  pub writes : (id : Id) → get id_cmp brought.writes id ≡ write_place_from k xs id
+  pub commits : (q : ℕ) → get nat_cmp brought.commits q ≡ brought_commit xs q
+
+abbrev pub IsBroughtIfAny : Option Brought → List Item → Type 0
+IsBroughtIfAny None xs = Unit {0}
+IsBroughtIfAny (Some brought) xs = IsBroughtFrom 0 brought xs
+
+-- what is found of kept rows and of what a batch brings
+pub record IsFound (found : Found) (rows : List KeptRow) (xs : List Item) : Type 0 where
+  pub rows_are : ArePlacesIfAny found.rows rows
+  pub brought_is : IsBroughtIfAny found.brought xs
 
 -- ---- line by line: `n` are the numbers behind the lines before, `s` and `rows` those and the kept writes before the batch, `all` are its items
 

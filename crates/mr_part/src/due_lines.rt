@@ -1,9 +1,9 @@
 ghost use Rattle.std.specs.Prelude.{◌≡◌, ◌+◌, ◌<◌, ◌^◌, IfSome, map, length};
 ghost use Rattle.mr_base.specs.Batches.{item_of};
 ghost use Rattle.mr_part.specs.Answering.{NeverStore};
-ghost use Rattle.mr_part.specs.DueLines.{ArePlacesIfAny, due_from, noted_if, verdict_on, verdict_on_write, is_known_commit};
+ghost use Rattle.mr_part.specs.DueLines.{IsFound, due_from, noted_if, verdict_on, verdict_on_write, is_known_commit};
 
-use crate::brought::{brought_commit, brought_write};
+use crate::brought::{Brought, brought_if_any, find_commit, find_write};
 use crate::judge::{judge_commit, judge_write};
 use crate::kept_rows::KeptRow;
 use crate::row_places::{RowPlaces, find_row, places_if_any};
@@ -11,8 +11,15 @@ use mr_base::{Item, Refusal, Write, WriteId};
 use mr_tables::summary::Summary;
 use std::alloc::Global;
 
-/// Why the first line of a batch that is refused is refused, by the numbers and kept writes before it. That doesn't hang on memory: if it takes
-/// no places of the kept writes, they are searched one after the other. A batch that repeats a line of its own is searched so too.
+/// Where kept rows stand, and what a batch brings, as far as memory takes it.
+#[derive(Drop)]
+struct Found {
+    rows: Option<RowPlaces>,
+    brought: Option<Brought>,
+}
+
+/// Why the first line of a batch that is refused is refused, by the numbers and kept writes before it. That doesn't hang on memory: what it doesn't
+/// take is searched one after the other.
 pub(crate) fn due_line(
     alloc: Global,
     summary: &Summary,
@@ -23,25 +30,23 @@ pub(crate) fn due_line(
         → result ≡ due_from 2 summary.now summary.now kept.now (map item_of items.now) (map item_of items.now) }
     ensures own { IfSome result (λ e. ¬ (e ≡ Refusal.Store)) }
 {
-    let places = places_if_any(alloc, kept);
-    due_with(summary, kept, &places, items)
+    let found = Found {
+        rows: places_if_any(alloc, kept),
+        brought: brought_if_any(alloc, items),
+    };
+    due_with(summary, kept, &found, items)
 }
 
-/// The same, by these places of the kept writes.
-fn due_with(
-    summary: &Summary,
-    kept: &[KeptRow],
-    places: &Option<RowPlaces>,
-    items: &[Item],
-) -> Option<Refusal>
-    ensures due { ArePlacesIfAny places.now kept.now → length items.now + 2 < 2 ^ 64
+/// The same, by what is found.
+fn due_with(summary: &Summary, kept: &[KeptRow], found: &Found, items: &[Item]) -> Option<Refusal>
+    ensures due { IsFound found.now kept.now (map item_of items.now) → length items.now + 2 < 2 ^ 64
         → result ≡ due_from 2 summary.now summary.now kept.now (map item_of items.now) (map item_of items.now) }
     ensures own { IfSome result (λ e. ¬ (e ≡ Refusal.Store)) }
 {
     let mut numbers = *summary;
     for (k, item) in items.iter().enumerate() {
         let line = (k as u64).saturating_add(2);
-        match verdict_on(summary, &numbers, kept, places, items, line, item) {
+        match verdict_on(summary, &numbers, kept, found, items, line, item) {
             Ok(is_new) => note(&mut numbers, item, is_new),
             Err(refusal) => return Some(refusal),
         }
@@ -54,27 +59,19 @@ fn verdict_on(
     summary: &Summary,
     numbers: &Summary,
     kept: &[KeptRow],
-    places: &Option<RowPlaces>,
+    found: &Found,
     items: &[Item],
     line: u64,
     item: &Item,
 ) -> Result<bool, Refusal>
-    ensures verdict { ArePlacesIfAny places.now kept.now
+    ensures verdict { IsFound found.now kept.now (map item_of items.now)
         → result ≡ verdict_on line numbers.now summary.now kept.now (map item_of items.now) (item_of item.now) }
     ensures own { NeverStore result }
 {
     match item {
-        Item::W(write) => verdict_on_write(summary, numbers, kept, places, items, line, write),
+        Item::W(write) => verdict_on_write(summary, numbers, kept, found, items, line, write),
         Item::C { seq, id } => {
-            let is_there = is_known_commit(
-                summary,
-                numbers,
-                kept,
-                places,
-                items,
-                seq.number(),
-                *id,
-            );
+            let is_there = is_known_commit(summary, numbers, kept, found, items, seq.number(), *id);
             judge_commit(numbers, line, *seq, *id, is_there)
         }
     }
@@ -85,12 +82,12 @@ fn verdict_on_write(
     summary: &Summary,
     numbers: &Summary,
     kept: &[KeptRow],
-    places: &Option<RowPlaces>,
+    found: &Found,
     items: &[Item],
     line: u64,
     write: &Write,
 ) -> Result<bool, Refusal>
-    ensures verdict { ArePlacesIfAny places.now kept.now
+    ensures verdict { IsFound found.now kept.now (map item_of items.now)
         → result ≡ verdict_on_write line numbers.now summary.now kept.now (map item_of items.now) write.now }
     ensures own { NeverStore result }
 {
@@ -99,9 +96,14 @@ fn verdict_on_write(
         return judge_write(numbers, line, write, None);
     }
     if stamp.n > summary.tally(stamp.server).count {
-        return judge_write(numbers, line, write, brought_write(items, stamp.id()));
+        return judge_write(
+            numbers,
+            line,
+            write,
+            find_write(items, &found.brought, stamp.id()),
+        );
     }
-    match find_row(kept, places, stamp.id()) {
+    match find_row(kept, &found.rows, stamp.id()) {
         Some(row) => judge_write(numbers, line, write, Some(&row.write)),
         None => judge_write(numbers, line, write, None),
     }
@@ -112,24 +114,24 @@ fn is_known_commit(
     summary: &Summary,
     numbers: &Summary,
     kept: &[KeptRow],
-    places: &Option<RowPlaces>,
+    found: &Found,
     items: &[Item],
     number: u64,
     id: WriteId,
 ) -> bool
-    ensures { ArePlacesIfAny places.now kept.now
+    ensures { IsFound found.now kept.now (map item_of items.now)
         → result ≡ is_known_commit numbers.now summary.now kept.now (map item_of items.now) number id }
 {
     if number > numbers.commits {
         return false;
     }
     if number > summary.commits {
-        return match brought_commit(items, number) {
+        return match find_commit(items, &found.brought, number) {
             Some(other) => other == id,
             None => false,
         };
     }
-    match find_row(kept, places, id) {
+    match find_row(kept, &found.rows, id) {
         Some(row) => row.seq == number,
         None => false,
     }

@@ -1,7 +1,7 @@
 use Rattle.std.proofs.Common.{◌≡◌, drop, map}
 use Rattle.mr_base.specs.Batches.{item_of}
 use Rattle.mr_part.specs.DueLines.{brought_write}
-use Rattle.mr_part.proofs.brought.brought_write.Given as goal
+use Rattle.mr_part.proofs.brought.first_write.Given as goal
 
 -- the items so far have no write of the id
 abbrev pub invariant-loop-item : goal.invariant-loop-item

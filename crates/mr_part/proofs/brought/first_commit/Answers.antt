@@ -4,8 +4,8 @@ use Rattle.std.proofs.lemmas.List.{get_or-map, length-map}
 use Rattle.mr_base.specs.Batches.{item_of}
 use Rattle.mr_part.specs.DueLines.{brought_commit}
 use Rattle.mr_part.proofs.DueLines.{commit_skipped, commit_here}
-use Rattle.mr_part.proofs.brought.brought_commit.Goals.{in-W, in-C+else-number}
-use Rattle.mr_part.proofs.brought.brought_commit.Goals as goal
+use Rattle.mr_part.proofs.brought.first_commit.Goals.{in-W, in-C+else-number}
+use Rattle.mr_part.proofs.brought.first_commit.Goals as goal
 
 pub returns-then-number : goal.returns-then-number
 returns-then-number c =

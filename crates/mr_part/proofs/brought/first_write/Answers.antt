@@ -5,8 +5,8 @@ use Rattle.mr_model.specs.Writes.{id_of, same_id}
 use Rattle.mr_base.specs.Batches.{item_of}
 use Rattle.mr_part.specs.DueLines.{brought_write}
 use Rattle.mr_part.proofs.DueLines.{write_skipped, write_here}
-use Rattle.mr_part.proofs.brought.brought_write.Goals.{in-W+else-eq, in-C}
-use Rattle.mr_part.proofs.brought.brought_write.Goals as goal
+use Rattle.mr_part.proofs.brought.first_write.Goals.{in-W+else-eq, in-C}
+use Rattle.mr_part.proofs.brought.first_write.Goals as goal
 
 pub returns-then-eq : goal.returns-then-eq
 returns-then-eq c =
