@@ -1,4 +1,5 @@
-# Rows that contradict each other: the stock sqlite3 turned a number in a database, and each command that would change it is refused.
+# Rows that contradict each other: the stock sqlite3 turned a number in a database, and each command that would change it, exchange it or
+# serve it is refused; where `meta` and `vector` contradict each other, each question is, too.
 # ./test sources this file; the functions of tests/lib.sh and tests/files/commands.sh and the variables of ./test are used here.
 
 # turned NAME SQL: the stock sqlite3 ran this text in a database with five writes: three bookings, one of which is taken back by the
@@ -22,53 +23,36 @@ refused_so() {
     same "the rows after it: $name" "$scratch/rows_after" "$scratch/rows"
 }
 
-# id_taken NAME SQL: a write of the replica's own is refused in each room, since a row has its id
-id_taken() {
-    turned "$1" "$2"
+# refused_changes NAME: each command that would change, exchange or serve the database that was turned is refused, and changes nothing
+refused_changes() {
     refused_so "$1: a booking in oak" book "$database" oak 30 1995-12-18 18:00 Next
     refused_so "$1: a booking in elm" book "$database" elm 30 1995-12-18 18:00 Next
     refused_so "$1: a cancel" cancel "$database" oak 1-1
-}
-
-# contradicts NAME SQL: each command that changes the replica is refused, and each that exchanges
-contradicts() {
-    id_taken "$1" "$2"
     refused_so "$1: a room" add-room "$database" ash
     refused_so "$1: a commit" commit "$database" 1
     refused_so "$1: a truncation" truncate "$database" 1
     refused_so "$1: a batch" import "$database" "$scratch/commands/batch"
-    refused_so "$1: a position" position "$database"
+    refused_so "$1: init" init "$database" 1 1
+    refused_so "$1: a server" serve "$database" 20123 1
+    refused_so "$1: an exchange" exchange "$database" http://127.0.0.1:20123/
+    refused_so "$1: a bridge" bridge "$database" "$scratch/commands/other.db"
 }
 
-# refused_served NAME SQL: whoever asks a server of the database is answered 25, whatever is asked, and the rows stay as they were
-refused_served() {
+# contradicts NAME SQL: only rows of several tables show it together, so that a question doesn't
+contradicts() {
     turned "$1" "$2"
-    serve "$database" 3
-    asked "$1: a sheet that is served" 503 '{"name":"Store","refusal":25}' /rooms/oak/days/1995-12-18
-    submitted "$1: a submission that is served" 503 '{"name":"Store","refusal":25}' \
-        '{"day":"1995-12-18","length":30,"room":"oak","start":"18:00","title":"Next"}'
-    asked "$1: a request that is served" 503 '{"name":"Store","refusal":25}' /rooms/oak/requests/1-1
-    served "$1: the lines of the server" 503 503 503
-    sqlite3 "$database" .dump > "$scratch/rows_after"
-    same "the rows after it was served: $1" "$scratch/rows_after" "$scratch/rows"
+    refused_changes "$1"
 }
 
-# what only rows of several tables show together is looked for when a server reads them all
-run_contradicting_served() {
-    if ! command -v curl > /dev/null; then
-        echo 'skipped: served rows that contradict each other (no curl)'
-        return
-    fi
-    refused_served 'a booking at another slot than its place in the log' "UPDATE booking SET start = 600, stop = 660 WHERE n = 1"
-    refused_served 'two bookings that overlap' "UPDATE booking SET room = 'oak' WHERE n = 2; UPDATE log SET room = 'oak' WHERE n = 2"
-    refused_served 'a request that has two rows' "INSERT INTO errorlog SELECT room, day, start, stop, server, n, title, 1, 0 FROM booking WHERE n = 2"
-    refused_served 'a request without a row' 'DELETE FROM errorlog'
-    refused_served 'a tentative write that the log lacks' 'DELETE FROM log WHERE n = 5'
-    refused_served 'a committed booking without its mark' 'UPDATE booking SET committed = 0 WHERE n = 1'
-    refused_served 'a room that is not known' "UPDATE booking SET room = 'ash' WHERE n = 2"
-    refused_served 'a cancelled booking whose cancel is void' 'UPDATE cancel SET done = 0'
-    refused_served 'an earlier write at the last time' 'UPDATE log SET tm = 5 WHERE n = 2'
-    refused_served 'a clock that is too late' 'UPDATE meta SET clock = 6'
+# numbers_contradict NAME SQL: `meta` and `vector` show it, so that each question is refused, too
+numbers_contradict() {
+    contradicts "$1" "$2"
+    refused_so "$1: a position" position "$database"
+    refused_so "$1: a sheet" sheet "$database" oak 1995-12-18
+    refused_so "$1: a calendar" calendar "$database" oak full
+    refused_so "$1: an outcome" outcome "$database" oak 1-1
+    refused_so "$1: an error log" errors "$database" oak
+    refused_so "$1: a batch for a position" export "$database" "$scratch/commands/known" "$scratch/commands/made" 10
 }
 
 run_contradicting() {
@@ -87,30 +71,44 @@ run_contradicting() {
     expect_line 'Alpha is committed' 0 'committed 1' commit "$database" 1
     cp -- "$database" "$scratch/commands/five.db"
     printf '%s\n' 'mr1 3 1' 'W 3 1 1 oak 30 1995-12-18 16:00 0 Other' 'E' > "$scratch/commands/batch"
+    printf '%s\n' 'mp2 2 1' 'K 0' 'E' > "$scratch/commands/known"
+    rm -f -- "$scratch/commands/other.db"
+    expect_line 'another office' 0 'ok' init "$scratch/commands/other.db" 2 1
 
     # the next id is that of a write that is there: in two tables, and in each alone
-    id_taken 'four of five are counted' 'UPDATE vector SET n = 4'
-    id_taken 'three of five are counted' 'UPDATE vector SET n = 3'
-    id_taken 'two of five are counted' 'UPDATE vector SET n = 2'
-    id_taken 'one of five is counted' 'UPDATE vector SET n = 1'
-    id_taken 'the next id in errorlog alone' 'UPDATE vector SET n = 4; DELETE FROM log WHERE n = 5'
-    id_taken 'the next id in cancel alone' 'UPDATE vector SET n = 3; DELETE FROM log WHERE n = 4'
-    id_taken 'the next id in cancelled alone' 'UPDATE vector SET n = 2; DELETE FROM log WHERE n = 3'
-    id_taken 'the next id in booking alone' 'UPDATE vector SET n = 1; DELETE FROM log WHERE n = 2'
-    id_taken 'the next id in log alone' 'UPDATE vector SET n = 1; DELETE FROM booking WHERE n = 2'
+    contradicts 'four of five are counted' 'UPDATE vector SET n = 4'
+    contradicts 'three of five are counted' 'UPDATE vector SET n = 3'
+    contradicts 'two of five are counted' 'UPDATE vector SET n = 2'
+    contradicts 'one of five is counted' 'UPDATE vector SET n = 1'
+    contradicts 'the next id in errorlog alone' 'UPDATE vector SET n = 4; DELETE FROM log WHERE n = 5'
+    contradicts 'the next id in cancel alone' 'UPDATE vector SET n = 3; DELETE FROM log WHERE n = 4'
+    contradicts 'the next id in cancelled alone' 'UPDATE vector SET n = 2; DELETE FROM log WHERE n = 3'
+    contradicts 'the next id in booking alone' 'UPDATE vector SET n = 1; DELETE FROM log WHERE n = 2'
+    contradicts 'the next id in log alone' 'UPDATE vector SET n = 1; DELETE FROM booking WHERE n = 2'
     turned 'all five are counted' 'UPDATE vector SET n = 5'
     expect_line 'a booking behind all five' 0 '1-6 T 1995-12-18 18:00-18:30' book "$database" oak 30 1995-12-18 18:00 Next
 
     # meta and vector contradict each other
-    contradicts 'a server without writes' 'UPDATE vector SET n = 0'
-    contradicts 'more committed writes than writes' 'UPDATE vector SET n = 1, committed = 2; UPDATE meta SET commits = 2'
-    contradicts 'no clock' 'UPDATE meta SET clock = 0'
-    contradicts 'a clock that is too late' 'UPDATE meta SET clock = 6'
-    contradicts 'a last time that is too late' 'UPDATE vector SET tm = 6'
-    contradicts 'no commit' 'UPDATE meta SET commits = 0'
-    contradicts 'a commit too many' 'UPDATE meta SET commits = 2'
-    contradicts 'no committed write' 'UPDATE vector SET committed = 0'
-    contradicts 'a dropped commit at the primary' 'UPDATE meta SET dropped = 1'
-    contradicts 'no row of a server' 'DELETE FROM vector'
-    run_contradicting_served
+    numbers_contradict 'a server without writes' 'UPDATE vector SET n = 0'
+    numbers_contradict 'more committed writes than writes' 'UPDATE vector SET n = 1, committed = 2; UPDATE meta SET commits = 2'
+    numbers_contradict 'no clock' 'UPDATE meta SET clock = 0'
+    numbers_contradict 'a clock that is too late' 'UPDATE meta SET clock = 6'
+    numbers_contradict 'a last time that is too late' 'UPDATE vector SET tm = 6'
+    numbers_contradict 'no commit' 'UPDATE meta SET commits = 0'
+    numbers_contradict 'a commit too many' 'UPDATE meta SET commits = 2'
+    numbers_contradict 'no committed write' 'UPDATE vector SET committed = 0'
+    numbers_contradict 'a dropped commit at the primary' 'UPDATE meta SET dropped = 1'
+    numbers_contradict 'no row of a server' 'DELETE FROM vector'
+
+    # what only rows of several tables show together
+    contradicts 'a booking at another slot than its place in the log' "UPDATE booking SET start = 600, stop = 660 WHERE n = 1"
+    contradicts 'two bookings that overlap' "UPDATE booking SET room = 'oak' WHERE n = 2; UPDATE log SET room = 'oak' WHERE n = 2"
+    contradicts 'a request that has two rows' "INSERT INTO errorlog SELECT room, day, start, stop, server, n, title, 1, 0 FROM booking WHERE n = 2"
+    contradicts 'a request without a row' 'DELETE FROM errorlog'
+    contradicts 'a tentative write that the log lacks' 'DELETE FROM log WHERE n = 5'
+    contradicts 'a committed booking without its mark' 'UPDATE booking SET committed = 0 WHERE n = 1'
+    contradicts 'a room that is not known' "UPDATE booking SET room = 'ash' WHERE n = 2"
+    contradicts 'a cancelled booking whose cancel is void' 'UPDATE cancel SET done = 0'
+    contradicts 'an earlier write at the last time' 'UPDATE log SET tm = 5 WHERE n = 2'
+    contradicts 'a slot that ends before it begins' 'UPDATE booking SET stop = 500 WHERE n = 1'
 }

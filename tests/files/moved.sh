@@ -195,6 +195,11 @@ run_moved_inits() {
     refused_move 'moved: a place without a write' 'refused 25 Store' 'INSERT INTO undo VALUES (9, 9, 0)'
     refused_move 'moved: a place of no choice' 'refused 25 Store' 'UPDATE undo SET place = -2 WHERE n = 6'
     refused_move 'moved: the place of a ninth alternative' 'refused 25 Store' 'UPDATE undo SET place = 9 WHERE server = 7 AND n = 3'
+    # rows that contradict each other
+    refused_move 'moved: a place that the sheet lacks' 'refused 25 Store' 'UPDATE undo SET place = -1 WHERE server = 7 AND n = 3'
+    refused_move 'moved: a clock that is too late' 'refused 25 Store' 'UPDATE meta SET clock = clock + 1'
+    refused_move 'moved: a request without a row' 'refused 25 Store' 'DELETE FROM errorlog'
+    refused_move 'moved: a write too few is counted' 'refused 25 Store' 'UPDATE vector SET n = n - 1 WHERE server = 7'
     # its choices are of one slot
     first_tables eighth
     sqlite3 "$database" 'UPDATE undo SET place = 8 WHERE server = 7 AND n = 3'

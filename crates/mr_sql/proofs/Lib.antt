@@ -3,6 +3,7 @@ pub mod LogLemmas
 pub mod ScopeLemmas
 pub mod CreateLemmas
 pub mod AnswerLemmas
+pub mod QuestionLemmas
 pub mod NextIdLemmas
 pub mod OpeningLemmas
 pub mod TakenLemmas

@@ -81,6 +81,10 @@ pub told_of_two : {X E : Type 0} (r : Result X E) (P Q R : X → Type 0) → ((x
 told_of_two (Ok x) P Q R way h k = way x h k
 told_of_two (Err e) P Q R way h k = tt
 
+pub told_of_three : {X E : Type 0} (r : Result X E) (P Q R S : X → Type 0) → ((x : X) → P x → Q x → R x → S x) → IfOk r P → IfOk r Q → IfOk r R → IfOk r S
+told_of_three (Ok x) P Q R S way h k l = way x h k l
+told_of_three (Err e) P Q R S way h k l = tt
+
 -- of an answer alone, whatever it is
 pub ok_of : {X E P Q : Type 0} (r : Result X E) → (P → Q) → OnOk r P → OnOk r Q
 ok_of (Ok x) way h = way h

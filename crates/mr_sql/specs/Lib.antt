@@ -1,4 +1,6 @@
--- A reader of the contracts trusts Found and Refused. The others, PlaceOfId, ScopeQuestions, ScopesRead, RoomTests, LateTests, AboveTests, Blank and OurSchema, serve private clauses and proofs alone.
+-- A reader of the contracts trusts Found and Refused. The others, Numbers, PlaceOfId, ScopeQuestions, ScopesRead, RoomTests, LateTests, AboveTests,
+-- Blank and OurSchema, serve private clauses and proofs alone.
+pub mod Numbers
 pub mod PlaceOfId
 pub mod ScopeQuestions
 pub mod ScopesRead

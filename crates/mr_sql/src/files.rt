@@ -1,6 +1,6 @@
 //! Keepers in files.
 
-ghost use Rattle.std.specs.Prelude.{◌≡◌, ◌⊎◌, false, Some, None, IfOk, IfErr, IsTrue};
+ghost use Rattle.std.specs.Prelude.{◌≡◌, ◌⊎◌, true, false, Some, None, IfOk, IfErr, IsTrue};
 ghost use Rattle.sqlite_trees.specs.Tree.{Trees};
 ghost use Rattle.sqlite.specs.Recovery.{Image};
 ghost use Rattle.sqlite.specs.WalFiles.{image_at};
@@ -9,7 +9,9 @@ ghost use Rattle.sqlite.specs.State.{HasCleanDisk};
 ghost use Rattle.sqlite.specs.Held.{state};
 ghost use Rattle.sqlite.specs.Files.{file_state, image_of, IsClosed};
 ghost use Rattle.sqlite.specs.Closing.{IsCopied};
+ghost use Rattle.mr_agree.specs.Agreeing.{agree};
 ghost use Rattle.mr_disk.specs.Copied.{image_copied};
+ghost use Rattle.mr_rows.specs.Database.{tables_in};
 ghost use Rattle.mr_sql.specs.Found.{IsAdopted, IsResumed, IsTaken, LeavesTables, StaysAs};
 ghost use Rattle.mr_sql.specs.Refused.{IsAnothers, IsFoundIn, IsNobodys};
 
@@ -332,7 +334,7 @@ impl<D: Disk + Drop> SqlKeeper<FileStore<D>> {
 }
 
 impl SqlKeeper<FileStore<SparingFile<Unknown>>> {
-    /// As `init_from`, of whatever the files at the path hold. What is refused is let go.
+    /// As `init_from`, of whatever the files at the path hold. Rows that contradict each other are refused with 25. What is refused is let go.
     pub fn init_file(
         rt: &HostRuntime,
         path: &str,
@@ -343,26 +345,30 @@ impl SqlKeeper<FileStore<SparingFile<Unknown>>> {
             → (before : Trees) × IsFoundIn (image_at ⟦<Unknown as Start>⟧) before × IsAdopted server primary before (file_state k.0).now.trees) }
         ensures opens { IfOk result (λ k. HasCleanDisk (file_state k.0) → IsTrue (file_state k.0).is_open) }
         ensures settled { IfOk result (λ k. HasCleanDisk (file_state k.0) → IsTrue (file_state k.0).is_open → LeavesTables (file_state k.0)) }
+        ensures agree { IfOk result (λ k. HasCleanDisk (file_state k.0) → IsTrue (file_state k.0).is_open
+            → agree (tables_in (file_state k.0).now.trees) ≡ true) }
         ensures uncounted { IfOk result (λ k. k.1 ≡ 0) }
         ensures cause { IfErr result (λ e. (e ≡ Refusal.OutOfMemory) ⊎ ((e ≡ Refusal.Store) ⊎ (e ≡ Refusal.NotAReplica))) }
     {
         match SqlKeeper::init_from(rt, path, Unknown, server, primary) {
-            Ok(keeper) => Ok(keeper),
+            Ok(keeper) => keeper.agreeing(),
             Err((refusal, _)) => Err(refusal),
         }
     }
 
-    /// As `open_from`, of whatever the files at the path hold. What is refused is let go.
+    /// As `open_from`, of whatever the files at the path hold. Rows that contradict each other are refused with 25. What is refused is let go.
     pub fn open_file(rt: &HostRuntime, path: &str) -> Result<FileKeeper, Refusal>
         ensures opened { IfOk result (λ k. HasCleanDisk (file_state k.0) → IsTrue (file_state k.0).is_open
             → (before : Trees) × IsFoundIn (image_at ⟦<Unknown as Start>⟧) before × IsResumed before (file_state k.0).now.trees) }
         ensures opens { IfOk result (λ k. HasCleanDisk (file_state k.0) → IsTrue (file_state k.0).is_open) }
         ensures settled { IfOk result (λ k. HasCleanDisk (file_state k.0) → IsTrue (file_state k.0).is_open → LeavesTables (file_state k.0)) }
+        ensures agree { IfOk result (λ k. HasCleanDisk (file_state k.0) → IsTrue (file_state k.0).is_open
+            → agree (tables_in (file_state k.0).now.trees) ≡ true) }
         ensures uncounted { IfOk result (λ k. k.1 ≡ 0) }
         ensures cause { IfErr result (λ e. (e ≡ Refusal.OutOfMemory) ⊎ ((e ≡ Refusal.Store) ⊎ (e ≡ Refusal.NotAReplica))) }
     {
         match SqlKeeper::open_from(rt, path, Unknown) {
-            Ok(keeper) => Ok(keeper),
+            Ok(keeper) => keeper.agreeing(),
             Err((refusal, _)) => Err(refusal),
         }
     }

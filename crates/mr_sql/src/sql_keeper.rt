@@ -1,9 +1,10 @@
-ghost use Rattle.std.specs.Prelude.{◌≡◌, ◌≢◌, ◌<◌, ◌⊎◌, false, IfOk, IfErr, IsTrue};
+ghost use Rattle.std.specs.Prelude.{◌≡◌, ◌≢◌, ◌<◌, ◌⊎◌, true, false, IfOk, IfErr, IsTrue};
 ghost use Rattle.sqlite_trees.specs.Tree.{Trees};
 ghost use Rattle.sqlite_trees.specs.View.{IsClean};
 ghost use Rattle.sqlite.specs.Steps.{over_memory, IsEmpty};
 ghost use Rattle.sqlite.specs.State.{HasCleanDisk};
 ghost use Rattle.sqlite.specs.Held.{state};
+ghost use Rattle.mr_agree.specs.Agreeing.{agree};
 ghost use Rattle.mr_model.specs.Replica.{opening};
 ghost use Rattle.mr_model.specs.Tables.{Stands};
 ghost use Rattle.mr_store.specs.KeeperCalls.{failures_for};
@@ -16,7 +17,7 @@ ghost use Rattle.mr_sql.specs.Refused.{AreSomebodys, IsAnothers, IsNobodys};
 use crate::adopt::{adopt_tables, recover, retaken};
 use crate::create::create;
 use crate::faults::refusal_of;
-use crate::{answers, load};
+use crate::{load, questions};
 use mr_base::{Day, Refusal, RoomName, ServerId, WriteId};
 use mr_part::{Part, Scope};
 use mr_replica::Desk;
@@ -99,42 +100,42 @@ impl<S: Alter> Keeper for SqlKeeper<S> {
     }
 
     fn rooms(&mut self) -> Result<Vec<RoomName>, Fault> {
-        match answers::rooms_of(&mut self.conn, self.alloc) {
+        match questions::rooms(&mut self.conn, self.alloc) {
             Ok(value) => Ok(value),
             Err(error) => Err(fault_of(&mut self.failures, error)),
         }
     }
 
     fn bookings(&mut self, room: &RoomName, day: Option<Day>) -> Result<Vec<BookingRow>, Fault> {
-        match answers::bookings_of(&mut self.conn, self.alloc, room, day) {
+        match questions::bookings(&mut self.conn, self.alloc, room, day) {
             Ok(value) => Ok(value),
             Err(error) => Err(fault_of(&mut self.failures, error)),
         }
     }
 
     fn place_of(&mut self, room: &RoomName, id: WriteId) -> Result<Option<PlaceRow>, Fault> {
-        match answers::place_of(&mut self.conn, self.alloc, room, id) {
+        match questions::place_of(&mut self.conn, self.alloc, room, id) {
             Ok(value) => Ok(value),
             Err(error) => Err(fault_of(&mut self.failures, error)),
         }
     }
 
     fn errors(&mut self, room: &RoomName) -> Result<Vec<ErrorRow>, Fault> {
-        match answers::errors_of(&mut self.conn, self.alloc, room) {
+        match questions::errors(&mut self.conn, self.alloc, room) {
             Ok(value) => Ok(value),
             Err(error) => Err(fault_of(&mut self.failures, error)),
         }
     }
 
     fn cancelled(&mut self, room: &RoomName) -> Result<Vec<CancelledRow>, Fault> {
-        match answers::cancelled_of(&mut self.conn, self.alloc, room) {
+        match questions::cancelled(&mut self.conn, self.alloc, room) {
             Ok(value) => Ok(value),
             Err(error) => Err(fault_of(&mut self.failures, error)),
         }
     }
 
     fn cancels(&mut self, room: &RoomName) -> Result<Vec<CancelRow>, Fault> {
-        match answers::cancels_of(&mut self.conn, self.alloc, room) {
+        match questions::cancels(&mut self.conn, self.alloc, room) {
             Ok(value) => Ok(value),
             Err(error) => Err(fault_of(&mut self.failures, error)),
         }
@@ -288,6 +289,37 @@ impl<S: Alter + Drop> SqlKeeper<S> {
         match SqlKeeper::recovered(alloc, conn) {
             Ok(keeper) => Ok(keeper),
             Err((refusal, conn)) => Err((refusal, GivenBack::Connection(conn))),
+        }
+    }
+}
+
+impl<S: Alter + Drop> SqlKeeper<S> {
+    /// The keeper, where the rows of its tables agree with each other. Else it is refused with 25, and let go as it is. It reads all rows.
+    pub(crate) fn agreeing(self) -> Result<SqlKeeper<S>, Refusal>
+        ensures agree { IfOk result (λ k. HasCleanDisk (state S.Store k.0) → IsTrue (state S.Store k.0).is_open
+            → agree (tables_in (state S.Store k.0).now.trees) ≡ true) }
+        ensures same { IfOk result (λ k. HasCleanDisk (state S.Store k.0) → IsTrue (state S.Store k.0).is_open
+            → (state S.Store k.0).now ≡ (state S.Store self.0).now) }
+        ensures was_open { IfOk result (λ k. HasCleanDisk (state S.Store k.0) → IsTrue (state S.Store k.0).is_open → IsTrue (state S.Store self.0).is_open) }
+        ensures opens { IfOk result (λ k. HasCleanDisk (state S.Store k.0) → IsTrue (state S.Store self.0).is_open → IsTrue (state S.Store k.0).is_open) }
+        ensures clean { IfOk result (λ k. HasCleanDisk (state S.Store k.0) → HasCleanDisk (state S.Store self.0)) }
+        ensures settled { IfOk result (λ k. HasCleanDisk (state S.Store k.0) → IsTrue (state S.Store k.0).is_open
+            → LeavesTables (state S.Store self.0) → LeavesTables (state S.Store k.0)) }
+        ensures counted { IfOk result (λ k. k.1 ≡ self.1) }
+        ensures cause { IfErr result (λ e. (e ≡ Refusal.OutOfMemory) ⊎ (e ≡ Refusal.Store)) }
+    {
+        let SqlKeeper {
+            mut conn,
+            failures,
+            alloc,
+        } = self;
+        match load::read_agreeing(&mut conn, alloc) {
+            Ok(_) => Ok(SqlKeeper {
+                conn,
+                failures,
+                alloc,
+            }),
+            Err(error) => Err(refusal_of(error)),
         }
     }
 }

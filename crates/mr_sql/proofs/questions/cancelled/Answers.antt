@@ -1,0 +1,21 @@
+use Rattle.std.proofs.Common.{◌≡◌, true, rules}
+use Rattle.std.specs.List.Sorted.{IsPermutation}
+use Rattle.sqlite.specs.Held.{state}
+use Rattle.mr_store.specs.Picked.{picked_cancelled}
+use Rattle.mr_rows.specs.Database.{tables_in}
+use Rattle.mr_sql.specs.Numbers.{do_numbers_agree}
+use Rattle.mr_sql.proofs.QuestionLemmas.{asked_with}
+use Rattle.mr_sql.proofs.questions.cancelled.Goals as goal
+
+pub returns-in_err-check_numbers-clause-reads : goal.returns-in_err-check_numbers-clause-reads
+returns-in_err-check_numbers-clause-reads g c = let read = c.check_numbers.ensures.reads in (read.0, read.1, λ clean kept. (search rules, search rules))
+
+pub returns-clause-reads : goal.returns-clause-reads
+returns-clause-reads g c =
+    (asked_with (state g.S.Store c.args.conn.now) (state g.S.Store c.check_numbers.new.conn) (state g.S.Store c.cancelled_of.new.conn) tt
+    (do_numbers_agree (tables_in (state g.S.Store c.args.conn.now).now.trees) ≡ true) c.cancelled_of.result (λ db rows. IsPermutation (picked_cancelled c.args.room.now (tables_in db.trees)) rows.items) c.in_ok-check_numbers.ensures.reads c.cancelled_of.ensures.reads).0
+
+pub returns-clause-numbers : goal.returns-clause-numbers
+returns-clause-numbers g c =
+    (asked_with (state g.S.Store c.args.conn.now) (state g.S.Store c.check_numbers.new.conn) (state g.S.Store c.cancelled_of.new.conn) tt
+    (do_numbers_agree (tables_in (state g.S.Store c.args.conn.now).now.trees) ≡ true) c.cancelled_of.result (λ db rows. IsPermutation (picked_cancelled c.args.room.now (tables_in db.trees)) rows.items) c.in_ok-check_numbers.ensures.reads c.cancelled_of.ensures.reads).1
