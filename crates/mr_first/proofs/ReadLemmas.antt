@@ -1,6 +1,8 @@
 -- Reads of a database of the first schema, one after another, and rows that were read in the order of their keys.
 use Rattle.std.proofs.Common.{◌≡◌, ℕ, ◌+◌, ◌<◌, ◌≤◌, List, [], ◌∷◌, map, length, take, get_or, Ok, Err, Result, Option, Some, IfOk, OnOk, refl, sym, ap, subst, ◌∙◌}
 use Rattle.std.specs.List.Sorted.{IsPermutation, IsSorted}
+use Rattle.std.specs.Ordering.{nat_cmp}
+use Rattle.std.specs.Cmp.Lexicographic.{slice_cmp}
 use Rattle.std.proofs.lemmas.Cmp.{on_total}
 use Rattle.std.proofs.lemmas.List.Sorted.{IsPermutation-map, IsPermutation-sym, IsPermutation-trans}
 use Rattle.std.specs.List.{All}
@@ -15,27 +17,29 @@ use Rattle.sqlite.specs.State.{State}
 use Rattle.sqlite.proofs.StateLemmas.{survives_weaker}
 use Rattle.mr_base.specs.Ids.{id_cmp}
 use Rattle.mr_replay.proofs.IdKeys.{ids_total}
+use Rattle.mr_model.specs.Texts.{Text}
 use Rattle.mr_model.specs.Writes.{Id}
-use Rattle.mr_model.specs.Tables.{MetaRow}
+use Rattle.mr_model.specs.Tables.{MetaRow, VectorRow, BookingRow, ErrorRow}
+use Rattle.mr_model.specs.Queries.{booking_id, error_id}
 use Rattle.mr_model.specs.First.{WriteRow, FirstUndoRow}
 use Rattle.mr_tables.specs.Change.{id_before, put_all}
 use Rattle.mr_tables.proofs.Putting.{id_order}
-use Rattle.mr_rows.specs.RowCells.{meta_in}
+use Rattle.mr_rows.specs.RowCells.{meta_in, room_in, vector_in, booking_row_from, error_in}
 use Rattle.mr_rows.specs.Schema.{first_schema}
-use Rattle.mr_rows.specs.Form.{Form}
+use Rattle.mr_rows.specs.Form.{Form, room_form, vector_form, booking_form, error_form}
 use Rattle.mr_rows.specs.Database.{IsHeld, in_order, tables_in}
 use Rattle.mr_rows.specs.Shown.{columns_from, IsShownAs, AreStoredAs, IsMeta, listed}
 use Rattle.mr_rows.specs.Reads.{IsPlacedIn, first_of}
 use Rattle.mr_rows.proofs.SortedByKey.{ordered_same, ordered_in_order}
 use Rattle.mr_rows.proofs.TableLemmas.{Facts, plain_apart}
-use Rattle.mr_rows.proofs.SortLemmas.{table_is, rising, id_less}
+use Rattle.mr_rows.proofs.SortLemmas.{table_is, rising, id_less, name_total, server_total, booking_total, error_total, rooms_rise, vectors_rise, bookings_rise, errors_rise}
 use Rattle.mr_rows.proofs.FirstLemmas.{meta_is}
 use Rattle.mr_rows.proofs.FoundLemmas.{stored_so, meta_is_found}
 use Rattle.mr_rows.proofs.QueryLemmas.{told_where, made_where, then_where}
 use Rattle.mr_first.specs.FirstCells.{write_row_from, undo_in}
 use Rattle.mr_first.specs.Forms.{write_id, undo_id, first_meta_form, write_form, undo_form}
 use Rattle.mr_first.specs.FirstDatabase.{IsFirst, IsKeptFirst, ReadsFirst, LooksFirst, first_in}
-use Rattle.mr_first.proofs.Facts.{meta_facts, write_facts, undo_facts}
+use Rattle.mr_first.proofs.Facts.{room_facts, vector_facts, booking_facts, error_facts, meta_facts, write_facts, undo_facts}
 
 -- ---- looks and reads
 
@@ -62,6 +66,11 @@ reads_made = made_where IsKeptFirst
 pub reads_then : {X Y : Type 0} (a b c : State) (x : X) (P : X → Type 0) (r : Result Y Error) (Q : Database → Y → Type 0) (R : Y → Type 0)
     → (IsKeptFirst a → (y : Y) → P x → Q a.now y → R y) → ReadsFirst a b (Ok x) P → ReadsFirst b c r (Q b.now) → ReadsFirst a c r R
 reads_then a b c = then_where IsKeptFirst IsKeptFirst a b c (λ kept now same. still_kept a b kept same)
+
+-- what both reads found
+pub both_read : {X Y : Type 0} (a b c : State) (x : X) (P : X → Type 0) (r : Result Y Error) (Q : Database → Y → Type 0)
+    → ReadsFirst a b (Ok x) P → ReadsFirst b c r (Q b.now) → ReadsFirst a c r (λ y. P x × Q a.now y)
+both_read a b c x P r Q = reads_then a b c x P r Q (λ y. P x × Q a.now y) (λ kept y p q. (p, q))
 
 pub looks_so : {X : Type 0} (old new : State) (r : Result X Error) (P Q : X → Type 0) → (IsPlacedIn first_schema old → (x : X) → P x → Q x) → LooksFirst old new r P → LooksFirst old new r Q
 looks_so = told_where (IsPlacedIn first_schema)
@@ -101,6 +110,30 @@ pub undo_read : (trees : Trees) (shown : List Row) (out : List FirstUndoRow) →
     → IsPermutation (map (λ row. undo_in (Null ∷ row)) shown) out → IsSorted (λ a b. id_cmp (undo_id a) (undo_id b)) out → out ≡ (first_in trees).undo
 unfolding first_in
 undo_read trees shown out held moved same sorted = sorted_is undo_id (map undo_in (trees 8)) _ out (shown_is undo_form undo_facts (columns_from 1 3) (trees 8) shown (λ r. refl) held moved) same sorted
+
+-- the tables that both schemas have, at the same place
+
+pub rooms_read : (trees : Trees) (shown : List Row) (out : List Text) → IsHeld room_form (trees 2) → IsPermutation (map (columns_from 1 1) (trees 2)) shown
+    → IsPermutation (map (λ row. room_in (Null ∷ row)) shown) out → IsSorted (slice_cmp nat_cmp) out → out ≡ (first_in trees).room
+unfolding first_in tables_in
+rooms_read trees shown out held moved same sorted = table_is _ name_total _ _ out (rooms_rise trees) (shown_is room_form room_facts (columns_from 1 1) (trees 2) shown (λ r. refl) held moved) same sorted
+
+pub vector_read : (trees : Trees) (shown : List Row) (out : List VectorRow) → IsHeld vector_form (trees 4) → IsPermutation (map (columns_from 1 4) (trees 4)) shown
+    → IsPermutation (map (λ row. vector_in (Null ∷ row)) shown) out → IsSorted (λ (a b : VectorRow). nat_cmp a.server b.server) out → out ≡ (first_in trees).vector
+unfolding first_in tables_in
+vector_read trees shown out held moved same sorted = table_is _ server_total _ _ out (vectors_rise trees) (shown_is vector_form vector_facts (columns_from 1 4) (trees 4) shown (λ r. refl) held moved) same sorted
+
+pub bookings_read : (trees : Trees) (shown : List Row) (out : List BookingRow) → IsHeld booking_form (trees 10) → IsPermutation (map (columns_from 1 8) (trees 10)) shown
+    → IsPermutation (map (λ row. booking_row_from (Null ∷ row)) shown) out → IsSorted (λ a b. id_cmp (booking_id a) (booking_id b)) out → out ≡ (first_in trees).booking
+unfolding first_in tables_in
+bookings_read trees shown out held moved same sorted =
+    table_is _ booking_total _ _ out (bookings_rise trees) (shown_is booking_form booking_facts (columns_from 1 8) (trees 10) shown (λ r. refl) held moved) same sorted
+
+pub errors_read : (trees : Trees) (shown : List Row) (out : List ErrorRow) → IsHeld error_form (trees 12) → IsPermutation (map (columns_from 1 9) (trees 12)) shown
+    → IsPermutation (map (λ row. error_in (Null ∷ row)) shown) out → IsSorted (λ a b. id_cmp (error_id a) (error_id b)) out → out ≡ (first_in trees).errorlog
+unfolding first_in tables_in
+errors_read trees shown out held moved same sorted =
+    table_is _ error_total _ _ out (errors_rise trees) (shown_is error_form error_facts (columns_from 1 9) (trees 12) shown (λ r. refl) held moved) same sorted
 
 -- Of `meta` the plain row is that of the second schema.
 same_meta : (trees : Trees) → (tables_in trees).meta ≡ (first_in trees).meta

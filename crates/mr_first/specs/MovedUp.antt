@@ -1,11 +1,13 @@
 -- What moving up makes of a database of the first schema.
-use Rattle.std.specs.Prelude.{◌≡◌, List, map, IsTrue, Result, OnOk, OnErr}
+use Rattle.std.specs.Prelude.{◌≡◌, true, List, map, IsTrue, Result, OnOk, OnErr}
 use Rattle.sqlite_trees.specs.Tree.{Trees}
 use Rattle.sqlite.specs.State.{State, HasCleanDisk}
 use Rattle.sqlite.specs.declared.error.Error.{Error}
 use Rattle.mr_model.specs.Replica.{Replica}
 use Rattle.mr_model.specs.Tables.{Tables}
-use Rattle.mr_model.specs.First.{WriteRow, FirstUndoRow, FirstTables, StandsFirst}
+use Rattle.mr_model.specs.First.{WriteRow, FirstUndoRow, FirstTables, StandsFirst, moved}
+use Rattle.mr_model.specs.Changes.{AreInKeyOrder}
+use Rattle.mr_agree.specs.Agreeing.{agree}
 use Rattle.mr_rows.specs.Database.{IsApplied, tables_in}
 use Rattle.mr_first.specs.Forms.{write_id, undo_id}
 use Rattle.mr_first.specs.FirstDatabase.{IsKeptFirst}
@@ -17,6 +19,10 @@ ArePaired ws us = map write_id ws ≡ map undo_id us
 -- the logs of a replica's first tables do
 abbrev pub LogsOfReplicasArePaired : Type 0
 LogsOfReplicasArePaired = (t : FirstTables) (r : Replica) → StandsFirst t r → ArePaired t.write_log t.undo
+
+-- the first tables of a replica, moved up, have rows that agree with each other, in the order of their keys
+abbrev pub MovedTablesOfReplicasAgree : Type 0
+MovedTablesOfReplicasAgree = (t : FirstTables) (r : Replica) → StandsFirst t r → (agree (moved t) ≡ true) × AreInKeyOrder (moved t)
 
 -- The first tables became these of the second schema, or the database is as it was. It is asked of an honest disk, and of a connection
 -- that no failure of the disk has shut.

@@ -1,6 +1,6 @@
-//! Tables of the first schema in a SQL database, and how they move up to the second, in one transaction (src/moving.rt).
-//! It stands on `mr_rows`; `mr_sql`, whose keepers have such databases, stands above it. README.md says which definitions contracts cite, and what is
-//! proved.
+//! Tables of the first schema in a SQL database, and how they move up to the second, in one transaction (src/moving.rt), if their rows agree.
+//! It stands on `mr_rows` and `mr_audit`; `mr_sql`, whose keepers have such databases, stands above it. README.md says which definitions
+//! contracts cite, and what is proved.
 #![tactic(auto)]
 
 mod cells;
@@ -10,11 +10,13 @@ mod first_rows;
 pub mod found;
 mod logs;
 mod meta_row;
+pub mod moved_tables;
 pub mod moving;
 pub mod pairs;
 pub mod puts;
 mod queries;
 mod rows;
+mod shared;
 mod tables;
 
 pub use rows::{FirstUndoRow, WriteRow};

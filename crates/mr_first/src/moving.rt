@@ -1,48 +1,20 @@
-ghost use Rattle.std.specs.Prelude.{◌≡◌, false, IsTrue, OnOk};
+ghost use Rattle.std.specs.Prelude.{◌≡◌, true, false, IsTrue, OnOk};
 ghost use Rattle.sqlite.specs.State.{HasCleanDisk, KeepsCommit, Survives};
 ghost use Rattle.sqlite.specs.Held.{state};
-ghost use Rattle.mr_model.specs.First.{moved, moved_log};
-ghost use Rattle.mr_first.specs.FirstDatabase.{ReadsFirst, first_in};
+ghost use Rattle.mr_agree.specs.Agreeing.{agree};
+ghost use Rattle.mr_model.specs.First.{moved};
+ghost use Rattle.mr_first.specs.FirstDatabase.{IsKeptFirst, first_in};
 ghost use Rattle.mr_first.specs.MovedUp.{MovesTo, IsMoved};
 ghost use Rattle.mr_first.specs.MoveUpSteps.{laid_out, filled, Rewrites};
 
 use crate::clearing::clear_old;
 use crate::creating::create_second_rows;
-use crate::logs::{all_undo, all_writes};
-use crate::meta_row::the_meta;
-use crate::pairs::moved_rows;
-use crate::rows::{FirstUndoRow, WriteRow};
+use crate::moved_tables::read_agreeing;
 use mr_rows::changes::put_all;
 use mr_rows::puts::put_meta;
 use mr_tables::{LogRow, MetaRow};
 use sqlite::{Alter, Connection, Error, Transaction};
 use std::alloc::Global;
-
-/// All rows of both logs, by id.
-fn read_logs<S: Alter>(
-    conn: &mut Connection<S>,
-    alloc: Global,
-) -> Result<(Vec<WriteRow>, Vec<FirstUndoRow>), Error>
-    requires autocommit { conn.old.in_transaction ≡ false }
-    ensures autocommit { conn.new.in_transaction ≡ false }
-    ensures reads { ReadsFirst (state S.Store conn.old) (state S.Store conn.new) result
-        (λ r. (r.0.items ≡ (first_in (state S.Store conn.old).now.trees).write_log) × (r.1.items ≡ (first_in (state S.Store conn.old).now.trees).undo)) }
-{
-    let writes = all_writes(conn, alloc)?;
-    let undo = all_undo(conn, alloc)?;
-    Ok((writes, undo))
-}
-
-/// The rows of the log that takes the place of both.
-fn read_moved<S: Alter>(conn: &mut Connection<S>, alloc: Global) -> Result<Vec<LogRow>, Error>
-    requires autocommit { conn.old.in_transaction ≡ false }
-    ensures autocommit { conn.new.in_transaction ≡ false }
-    ensures reads { ReadsFirst (state S.Store conn.old) (state S.Store conn.new) result
-        (λ rows. rows.items ≡ moved_log (first_in (state S.Store conn.old).now.trees).write_log (first_in (state S.Store conn.old).now.trees).undo) }
-{
-    let logs = read_logs(conn, alloc)?;
-    moved_rows(alloc, &logs.0, &logs.1)
-}
 
 /// Makes the tables that the second schema has beside those of the first, with rows in none of them, nor in those that it has other rows for.
 fn lay_out<S: Alter>(tx: &mut Transaction<'_, S>) -> Result<(), Error>
@@ -97,8 +69,8 @@ fn rewrite<S: Alter>(
 }
 
 /// Moves a database of the first schema up to the second, in one transaction: the log takes the place of `write_log` and `undo`, which
-/// stay without rows, and all other rows stay. The logs are read and paired before anything is written, and logs with a row that has no
-/// partner are refused. A refusal leaves the tables as they were.
+/// stay without rows, and all other rows stay. All rows are read before anything is written: logs with a row that has no partner are
+/// refused, and so are rows that contradict each other once they are moved. A refusal leaves the tables as they were.
 pub fn move_up<S: Alter>(conn: &mut Connection<S>, alloc: Global) -> Result<(), Error>
     requires autocommit { conn.old.in_transaction ≡ false }
     ensures autocommit { conn.new.in_transaction ≡ false }
@@ -106,8 +78,9 @@ pub fn move_up<S: Alter>(conn: &mut Connection<S>, alloc: Global) -> Result<(), 
     ensures moved { MovesTo (state S.Store conn.old) (state S.Store conn.new) (moved (first_in (state S.Store conn.old).now.trees)) result }
     ensures survives { Survives (state S.Store conn.old) (state S.Store conn.new)
         (IsMoved (state S.Store conn.old) (moved (first_in (state S.Store conn.old).now.trees))) }
+    ensures agree { HasCleanDisk (state S.Store conn.new) → IsKeptFirst (state S.Store conn.old)
+        → OnOk result (agree (moved (first_in (state S.Store conn.old).now.trees)) ≡ true) }
 {
-    let log = read_moved(conn, alloc)?;
-    let meta = the_meta(conn)?;
-    rewrite(conn, alloc, &meta, &log)
+    let tables = read_agreeing(conn, alloc)?;
+    rewrite(conn, alloc, &tables.meta, &tables.log)
 }

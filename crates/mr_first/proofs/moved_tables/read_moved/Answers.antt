@@ -4,7 +4,7 @@ use Rattle.mr_model.specs.First.{moved_log}
 use Rattle.mr_rows.proofs.QueryLemmas.{told_so}
 use Rattle.mr_first.specs.FirstDatabase.{first_in}
 use Rattle.mr_first.proofs.ReadLemmas.{reads_made}
-use Rattle.mr_first.proofs.moving.read_moved.Goals as goal
+use Rattle.mr_first.proofs.moved_tables.read_moved.Goals as goal
 
 pub returns-in_err-logs-clause-reads : goal.returns-in_err-logs-clause-reads
 returns-in_err-logs-clause-reads g c = let read = c.read_logs.ensures.reads in (read.0, read.1, λ clean kept. (search rules, search rules))

@@ -2,7 +2,7 @@ use Rattle.std.proofs.Common.{◌≡◌, Ok, rules}
 use Rattle.sqlite.specs.Held.{state}
 use Rattle.mr_first.specs.FirstDatabase.{first_in}
 use Rattle.mr_first.proofs.ReadLemmas.{reads_then}
-use Rattle.mr_first.proofs.moving.read_logs.Goals as goal
+use Rattle.mr_first.proofs.moved_tables.read_logs.Goals as goal
 
 pub returns-in_err-writes-clause-reads : goal.returns-in_err-writes-clause-reads
 returns-in_err-writes-clause-reads g c = let read = c.all_writes.ensures.reads in (read.0, read.1, λ clean kept. (search rules, search rules))
