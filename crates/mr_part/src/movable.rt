@@ -1,10 +1,10 @@
-ghost use Rattle.std.specs.Prelude.{◌≡◌, ◌&&◌, ◌||◌, ℕ, Bool, List, length, map, filter, flat_map, bytes_eq, OnOk, IfOk, IfErr};
+ghost use Rattle.std.specs.Prelude.{◌≡◌, ◌&&◌, ◌||◌, ℕ, Bool, List, map, filter, flat_map, bytes_eq, OnOk, IfOk, IfErr};
 ghost use Rattle.std.specs.List.{list_any};
 ghost use Rattle.mr_model.specs.Texts.{Text};
 ghost use Rattle.mr_model.specs.Writes.{Write as WriteOfRoom, id_of};
 ghost use Rattle.mr_model.specs.Exchange.{Item as ItemOfBatch};
-ghost use Rattle.mr_model.specs.Replica.{Replica, IsReplica};
-ghost use Rattle.mr_model.specs.Moving.{may_move as may_move_from, again};
+ghost use Rattle.mr_model.specs.Replica.{Replica};
+ghost use Rattle.mr_model.specs.Moving.{again};
 ghost use Rattle.mr_base.specs.Batches.{item_of};
 ghost use Rattle.mr_part.specs.KeptRows.{row_writes};
 ghost use Rattle.mr_part.specs.Moves.{ShowsMoves, rooms_named, moves_in, moves_row, is_anew};
