@@ -66,10 +66,10 @@ place_of_booking w a p by mark seq m s e f = ap (λ x. place_row_for w x p by ma
 
 seen_taken : (o : Option Row) (row : Row) → if_taken o ≡ Some row → (o ≡ Some row) × (is_taken row.trace ≡ true)
 seen_taken None row e = absurd (none_some row e)
-seen_taken (Some x) row e = go (is_taken x.kept) refl e
+seen_taken (Some x) row e = go (is_taken x.trace) refl e
   where
-    go : (c : Bool) → is_taken x.kept ≡ c → cond c (Some x) None ≡ Some row → (Some x ≡ Some row) × (is_taken row.trace ≡ true)
-    go true t f = (f, ap (λ (r : Row). is_taken r.kept) (sym (some_inj x row f)) ∙ t)
+    go : (c : Bool) → is_taken x.trace ≡ c → cond c (Some x) None ≡ Some row → (Some x ≡ Some row) × (is_taken row.trace ≡ true)
+    go true t f = (f, ap (λ (r : Row). is_taken r.trace) (sym (some_inj x row f)) ∙ t)
     go false t f = absurd (none_some row f)
 
 taken_seen : (row : Row) → is_taken row.trace ≡ true → if_taken (Some row) ≡ Some row
@@ -149,7 +149,7 @@ module _ (a b : Replica) (items : List Item) (m : BatchMoves a b items) (sound :
 
       row : (c : Write) (was : Option Id) (t : Id) (o : Option Row) → Has c writes → if_of c.room (row_at new t) ≡ o → Has p (row_if_moved (tallies_of b) was t o) → (w : Write) × Has w b.known × (p ≡ place_row b w)
       row c was t None g e k = absurd k
-      row c was t (Some r) g e k = by (same_by was (canceller_on r.kept)) k
+      row c was t (Some r) g e k = by (same_by was (canceller_on r.trace)) k
         where
           by : (x : Bool) → Has p (cond x [] (cons_option (board_place (tallies_of b) t r) [])) → (w : Write) × Has w b.known × (p ≡ place_row b w)
           by true k = absurd k
