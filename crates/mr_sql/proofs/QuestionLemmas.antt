@@ -1,5 +1,5 @@
 -- A question that is asked once the rows of `meta` and `vector` were tested.
-use Rattle.std.proofs.Common.{◌≡◌, Ok, Err, Result, IfOk, OnOk}
+use Rattle.std.proofs.Common.{Ok, Err, Result, IfOk, OnOk}
 use Rattle.sqlite.specs.declared.error.Error.{Error}
 use Rattle.sqlite.specs.Effect.{Database}
 use Rattle.sqlite.specs.State.{State, HasCleanDisk}

@@ -143,3 +143,10 @@ impl<S: Alter> FirstKeeper<S> {
         conn
     }
 }
+
+/// In memory nobody else writes the store, and nothing shuts it: so what a refused `move_up` gives back has its tables as they were. It does
+/// nothing.
+pub fn first_memory_is_honest(keeper: &FirstKeeper<MemStore>)
+    ensures clean { HasCleanDisk (state over_memory keeper.now) }
+    ensures open { IsTrue (state over_memory keeper.now).is_open }
+{}

@@ -28,5 +28,5 @@ mod scope_stamps;
 mod sql_keeper;
 
 pub use files::{CopyKeeper, FileKeeper, KeeperFrom, NotCopied, NotTaken};
-pub use first_keeper::FirstKeeper;
+pub use first_keeper::{FirstKeeper, first_memory_is_honest};
 pub use sql_keeper::{GivenBack, SqlKeeper, memory_is_honest};

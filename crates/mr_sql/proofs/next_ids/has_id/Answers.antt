@@ -1,4 +1,4 @@
-use Rattle.std.proofs.Common.{◌≡◌, ◌||◌, ◌∙◌, Ok, rules}
+use Rattle.std.proofs.Common.{◌≡◌, ◌||◌, Ok, rules}
 use Rattle.std.specs.List.{list_any}
 use Rattle.sqlite.specs.Held.{state}
 use Rattle.mr_model.specs.Writes.{same_id}

@@ -1,4 +1,4 @@
-use Rattle.std.proofs.Common.{◌≡◌, ◌||◌, ◌∙◌, Ok, rules}
+use Rattle.std.proofs.Common.{◌≡◌, ◌||◌, Ok, rules}
 use Rattle.sqlite.specs.Held.{state}
 use Rattle.mr_agree.specs.Ids.{has_place_of}
 use Rattle.mr_rows.specs.Database.{tables_in}

@@ -1,4 +1,4 @@
-use Rattle.std.proofs.Common.{◌≡◌, Ok, not, sym, ap, subst, ◌∙◌, List, [], ◌∷◌, map, filter, length, eqb}
+use Rattle.std.proofs.Common.{◌≡◌, Ok, not, sym, ap, subst, ◌∙◌, ◌∷◌, map, filter, eqb}
 use Rattle.std.specs.List.{list_any}
 use Rattle.std.specs.List.Sorted.{IsPermutation}
 use Rattle.sqlite_value.specs.declared.value.Value.TheVariants.{Null}
