@@ -40,7 +40,7 @@ pub(crate) fn perform<K: Keeper, W: Write>(
     }
 }
 
-/// Does the task with this replica, where the reader gives the file that the task names.
+/// Does the task with this replica, if the reader gives the file that the task names.
 fn perform_with<K: Keeper, R: Read, M: MakesFiles, W: Write>(
     alloc: Global,
     service: &mut Service<K>,
@@ -61,7 +61,7 @@ where
     }
 }
 
-/// Gives the replica the command and tells what it replies, and answers the status: 0, 1 where it refuses, or 3 where the file at
+/// Gives the replica the command and tells what it replies, and answers the status: 0, 1 if it refuses, or 3 if the file at
 /// this path does not take the reply.
 fn answer<K: Keeper, M: MakesFiles, W: Write>(
     alloc: Global,

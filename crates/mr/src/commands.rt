@@ -21,8 +21,8 @@ use mr_words::{Invocation, WordFault, invocation};
 use std::alloc::Global;
 use std::io::Write;
 
-/// Does what the words after the program's name ask for, prints to the writer and answers the status: 0 where it was
-/// done, 1 where it was refused, 2 where the words are no command line, 3 where a file can't be had or the writer
+/// Does what the words after the program's name ask for, prints to the writer and answers the status: 0 if it was
+/// done, 1 if it was refused, 2 if the words are no command line, 3 if a file can't be had or the writer
 /// does not take a line.
 pub fn command<W: Write>(rt: &HostRuntime, alloc: Global, words: &[String], out: &mut W) -> u8
     ensures within { result ≤ 3 }
@@ -38,7 +38,7 @@ pub fn command<W: Write>(rt: &HostRuntime, alloc: Global, words: &[String], out:
     }
 }
 
-/// Prints why there is no command line, and answers the status. Where the words can't be had for lack of memory, that is a
+/// Prints why there is no command line, and answers the status. If the words can't be had for lack of memory, that is a
 /// refusal like any other.
 pub fn say_word_fault<W: Write>(fault: WordFault, out: &mut W) -> u8
     ensures bad { fault ≡ WordFault.Bad → ((result ≡ 2) × Appends (W.contents out.old) (W.contents out.new) bad_words_line) ⊎ (result ≡ 3) }

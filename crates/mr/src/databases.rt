@@ -18,7 +18,7 @@ use mr_words::Task;
 use std::alloc::Global;
 use std::io::Write;
 
-/// Makes the database of a replica, where it is not there yet.
+/// Makes the database of a replica, if it is not there yet.
 pub(crate) fn init<W: Write>(
     rt: &HostRuntime,
     alloc: Global,
@@ -66,7 +66,7 @@ pub(crate) fn on_database<W: Write>(
     }
 }
 
-/// Does the task, a question, with a copy of the database at this path, or with the database itself where no copy will do.
+/// Does the task, a question, with a copy of the database at this path, or with the database itself if no copy will do.
 fn on_copy<W: Write>(rt: &HostRuntime, alloc: Global, database: &str, task: Task, out: &mut W) -> u8
     requires reads { (command : Command) → IsCommandFor task command → OnlyReads command }
     ensures { EndsAskingEither ⟦<FileKeeper as Keeper>⟧ ⟦<CopyKeeper as Keeper>⟧ (IsCommandFor task) (TellsTo (file_for task))

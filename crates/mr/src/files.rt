@@ -30,7 +30,7 @@ pub(crate) fn open_file(rt: &HostRuntime, path: &str) -> Result<File, FileFault>
     }
 }
 
-/// What makes the file that takes a reply. Who is handed one and leaves it as it was has made no file, and emptied none.
+/// What makes the file that takes a reply. A function that is handed one and leaves it as it was has made no file, and emptied none.
 pub(crate) trait MakesFiles {
     type File: Write + Drop;
 
@@ -82,7 +82,7 @@ where
     }
 }
 
-/// Want of memory, or else that the file can't be had.
+/// Out of memory, or else that the file can't be had.
 fn fault_of(error: &io::Error) -> FileFault
     ensures memory { error_kind error.now ≡ OutOfMemory → result ≡ FileFault.Memory }
     ensures file { error_kind error.now ≢ OutOfMemory → result ≡ FileFault.File }
@@ -94,7 +94,7 @@ fn fault_of(error: &io::Error) -> FileFault
     }
 }
 
-/// Prints that a file can't be had, or that memory is wanting for it.
+/// Prints that a file can't be had, or that there is no memory for it.
 pub(crate) fn say_fault<W: Write>(out: &mut W, fault: FileFault) -> u8
     ensures told { TellsFault (W.contents out.old) (W.contents out.new) result }
     ensures memory { result ≡ 1 → fault ≡ FileFault.Memory }

@@ -14,9 +14,9 @@ use mr_service::{Step, StepReply, World};
 use std::alloc::Global;
 use std::io::{Read, Write};
 
-/// Runs the script that the reader gives, prints each reply to the writer, and answers the status: 0 where it was
-/// run, 1 where a line of it is not of the table or memory is wanting, 3 where the reader fails or gives more than
-/// 16 MiB, or where the writer does not take a line.
+/// Runs the script that the reader gives, prints each reply to the writer, and answers the status: 0 if it was
+/// run, 1 if a line of it is not of the table or there is no memory, 3 if the reader fails or gives more than
+/// 16 MiB, or if the writer does not take a line.
 pub fn rehearse<R: Read, W: Write>(alloc: Global, reader: R, out: &mut W) -> u8
 where
     R: Drop,

@@ -43,7 +43,7 @@ fn is_question(local: &Local) -> bool
     }
 }
 
-/// The file that the task names, to be read, where it names one.
+/// The file that the task names, to be read, if it names one.
 pub(crate) fn reader_for(rt: &HostRuntime, task: &Task) -> Result<Option<File>, FileFault> {
     let path = match task {
         Task::Local(_) => return Ok(None),
@@ -54,7 +54,7 @@ pub(crate) fn reader_for(rt: &HostRuntime, task: &Task) -> Result<Option<File>, 
     Ok(Some(file))
 }
 
-/// The command of the task, where the reader gives the file that it names, and the path of the file that takes the reply. Where there
+/// The command of the task, if the reader gives the file that it names, and the path of the file that takes the reply. If there
 /// is none, the reply is printed.
 pub(crate) fn command_for<R: Read>(
     alloc: Global,
@@ -78,7 +78,7 @@ where
     }
 }
 
-/// All that the reader gives, where there is one.
+/// All that the reader gives, if there is one.
 fn read_all<R: Read>(alloc: Global, reader: Option<R>) -> Result<Vec<u8>, FileFault>
 where
     R: Drop,

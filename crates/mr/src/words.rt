@@ -30,7 +30,7 @@ impl<'a> Words<'a> {
         Words { rest: line }
     }
 
-    /// The next word, where a space follows it. Where there is none, what is left is not read any more.
+    /// The next word, if a space follows it. If there is none, what is left is not read any more.
     pub(crate) fn next(&mut self) -> Option<&'a str>
         ensures { MatchOption result (cut_first_word self.old ≡ None) (λ word. cut_first_word self.old ≡ Some (word.now, self.new)) }
     {
@@ -53,7 +53,7 @@ impl<'a> Words<'a> {
         self.rest
     }
 
-    /// The next word, where it is a server's number.
+    /// The next word, if it is a server's number.
     pub(crate) fn server(&mut self) -> Option<ServerId>
         ensures { MatchOption result (cut_server self.old ≡ None) (λ server. cut_server self.old ≡ Some (server, self.new)) }
     {
@@ -61,7 +61,7 @@ impl<'a> Words<'a> {
         read_server(word)
     }
 
-    /// The next word, where it is a number of alternatives.
+    /// The next word, if it is a number of alternatives.
     fn count(&mut self) -> Option<u64>
         ensures { MatchOption result (number_of_slots self.old ≡ None) (λ count. number_of_slots self.old ≡ Some (count, self.new)) }
     {

@@ -80,7 +80,7 @@ fn read_all<S: Alter>(conn: &mut Connection<S>, alloc: Global) -> Result<Tables,
     })
 }
 
-/// These tables, where their rows agree with each other. Else they are refused as a failure of the store.
+/// These tables, if their rows agree with each other. Else they are refused as a failure of the store.
 pub fn agreeing(alloc: Global, tables: Tables) -> Result<Tables, Error>
     ensures same { IfOk result (λ agreeing. agreeing ≡ tables) }
     ensures agree { IfOk result (λ agreeing. agree tables ≡ true) }
@@ -92,7 +92,7 @@ pub fn agreeing(alloc: Global, tables: Tables) -> Result<Tables, Error>
     }
 }
 
-/// All tables of the second schema, where their rows agree with each other.
+/// All tables of the second schema, if their rows agree with each other.
 pub(crate) fn read_agreeing<S: Alter>(
     conn: &mut Connection<S>,
     alloc: Global,

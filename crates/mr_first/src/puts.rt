@@ -157,7 +157,7 @@ fn put_board<S: Alter>(
     put_all::<ErrorRow, S>(tx, alloc, &first.errorlog)
 }
 
-/// Puts first tables, a row in place of the one with its key, if there is one. Where the keys of each table rise and the database has no
+/// Puts first tables, a row in place of the one with its key, if there is one. If the keys of each table rise and the database has no
 /// row yet, its first tables are then these.
 pub fn put_tables<S: Alter>(
     tx: &mut Transaction<'_, S>,

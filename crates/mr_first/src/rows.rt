@@ -3,7 +3,7 @@ use mr_replay::Place;
 use mr_tables::MeetingCells;
 use std::marker::Model;
 
-/// A row of `write_log`: a kept write, which is a booking. `seq` is its commit number, 0 where it is tentative.
+/// A row of `write_log`: a kept write, which is a booking. `seq` is its commit number, 0 if it is tentative.
 #[derive(Debug, Drop)]
 pub struct WriteRow {
     pub server: ServerId,

@@ -58,7 +58,7 @@ impl<C: Keeper, S: Keeper> Neighbour<'_, C, S> {
         connect(self.rt, THIS_MACHINE, self.port)
     }
 
-    /// Serves what this client asked. Where serving fails, what the client then reads tells so.
+    /// Serves what this client asked. If serving fails, what the client then reads tells so.
     fn serve(&mut self, client: &TcpStream) -> Result<(), WebFault>
         ensures client { self.new.client ≡ self.old.client }
         ensures server { IsServer S.Keeper Pull self.old.server self.new.server }
@@ -158,8 +158,8 @@ impl<C: Keeper, S: Keeper> Peer for Neighbour<'_, C, S> {
     }
 }
 
-/// Exchanges the databases, the first as the client, prints a line for each way, and answers the status: 0 where both were gone, 1
-/// where a database or the client's replica refused or the server answered another status than 200, 3 where the network or the
+/// Exchanges the databases, the first as the client, prints a line for each way, and answers the status: 0 if both were gone, 1
+/// if a database or the client's replica refused or the server answered another status than 200, 3 if the network or the
 /// writer failed.
 pub fn bridge<W: Write>(
     rt: &HostRuntime,

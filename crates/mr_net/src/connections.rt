@@ -13,7 +13,7 @@ use std::net::{Shutdown, TcpListener, TcpStream};
 /// How often the rest of a request is read from, at most 4,096 bytes a time.
 const GREATEST_REST: u32 = 512;
 
-/// Serves the next connection, and answers the status of its reply, or None where it failed.
+/// Serves the next connection, and answers the status of its reply, or None if it failed.
 pub(crate) fn serve_next<K: Keeper>(
     rt: &HostRuntime,
     alloc: Global,
@@ -30,7 +30,7 @@ pub(crate) fn serve_next<K: Keeper>(
     served
 }
 
-/// Serves the one request of a connection, and answers the status of its reply, or None where that failed.
+/// Serves the one request of a connection, and answers the status of its reply, or None if that failed.
 pub(crate) fn serve<K: Keeper>(
     rt: &HostRuntime,
     alloc: Global,
@@ -44,7 +44,7 @@ pub(crate) fn serve<K: Keeper>(
     serve_over(alloc, service, &mut reader, &mut writer)
 }
 
-/// Serves the one request of this reader, and answers the status of the reply that was written, or None where that failed.
+/// Serves the one request of this reader, and answers the status of the reply that was written, or None if that failed.
 fn serve_over<R: Read, W: Write, K: Keeper>(
     alloc: Global,
     service: &mut Service<K>,

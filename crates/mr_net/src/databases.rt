@@ -1,5 +1,5 @@
-//! A keeper as the service of its replica, with its rows in memory. What is done with a database that is open stands for any keeper: a call that is
-//! made of the keeper of a file is dear to prove, so each command makes one, of what it does in between.
+//! A keeper as the service of its replica, with its rows in memory. The code between opening and closing a database is generic over the keeper:
+//! a call on the keeper of a file is dear to prove, so each command makes exactly one.
 
 ghost use Rattle.std.specs.Prelude.{◌≡◌};
 

@@ -38,7 +38,7 @@ struct Address<'a> {
 
 /// A peer at an address, which is asked over one connection a request, and the replica that exchanges with it.
 ///
-/// Each request is made whole before its connection is opened: where this replica refuses to make one, the peer isn't called, and it
+/// Each request is made whole before its connection is opened: if this replica refuses to make one, the peer isn't called, and it
 /// doesn't wait while one is made.
 #[derive(Drop)]
 struct Remote<'a, K: Keeper> {
@@ -140,8 +140,8 @@ impl<K: Keeper> Peer for Remote<'_, K> {
     }
 }
 
-/// Exchanges the database with the peer at the address, prints a line for each way, and answers the status: 0 where both were gone,
-/// 1 where the database, its replica or the peer refused, 2 where the address is none, 3 where the network or the writer failed.
+/// Exchanges the database with the peer at the address, prints a line for each way, and answers the status: 0 if both were gone,
+/// 1 if the database, its replica or the peer refused, 2 if the address is none, 3 if the network or the writer failed.
 pub fn exchange<W: Write>(
     rt: &HostRuntime,
     alloc: Global,

@@ -27,7 +27,7 @@ impl Model for Host {
 }
 
 impl Host {
-    /// The host with its port, where that isn't 80. It is None where no request may name it.
+    /// The host with its port, if that isn't 80. It is None if no request may name it.
     pub(crate) fn new(alloc: Global, host: &str, port: u16) -> Result<Option<Host>, AllocError>
         ensures { IfOk result (λ named. MatchOption named (is_host (host_name host.now port) ≡ false)
             (λ h. (h ≡ host_name host.now port) × IsTrue (is_host (host_name host.now port)))) }

@@ -8,7 +8,7 @@ use std::io::{self, ErrorKind, Read, Write};
 use std::net::TcpStream;
 use std::time::{Duration, Instant};
 
-/// How many seconds one who calls has in all to send the request, how many to take the reply, and how many to end the connection
+/// How many seconds a caller has in all to send the request, how many to take the reply, and how many to end the connection
 /// then. So nobody who is silent, or sends or takes a byte now and then, keeps the others waiting for long.
 const PATIENCE_WITH_CALLERS: u64 = 10;
 
@@ -38,7 +38,7 @@ impl<'a> Timed<'a> {
         }
     }
 
-    /// How long it may still be waited for. It fails where that time is over, or where the clock can't be read.
+    /// How long it may still be waited for. It fails if that time is over, or if the clock can't be read.
     fn left(&mut self) -> io::Result<Duration>
         ensures begun { IfSome self.old.since (λ since. OnOk result (self.new.since ≡ Some since)) }
         ensures within { IfOk result (λ left. 0 < as_nanos left × as_nanos left ≤ PATIENCE_WITH_CALLERS * 1_000_000_000) }

@@ -11,7 +11,7 @@ use mr_base::{Item, Refusal, Write, WriteId};
 use mr_tables::summary::Summary;
 use std::alloc::Global;
 
-/// Where kept rows stand, and what a batch brings, as far as memory takes it.
+/// If kept rows stand, and what a batch brings, as far as memory takes it.
 #[derive(Drop)]
 struct Found {
     rows: Option<RowPlaces>,

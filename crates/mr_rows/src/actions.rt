@@ -21,7 +21,7 @@ use std::alloc::Global;
 
 // The cells of an action are the columns 4 to 9 of a row of `log`.
 
-/// Nothing, where this column has 0.
+/// Nothing, if this column has 0.
 fn read_zero(row: &Row, at: usize) -> Result<(), Error>
     ensures { IfOk result (λ _. column row.now at ≡ Int (pos 0)) }
 {
@@ -31,7 +31,7 @@ fn read_zero(row: &Row, at: usize) -> Result<(), Error>
     Ok(())
 }
 
-/// Nothing, where this column has the empty text.
+/// Nothing, if this column has the empty text.
 fn read_empty(row: &Row, at: usize) -> Result<(), Error>
     ensures { IfOk result (λ _. column row.now at ≡ Text []) }
 {

@@ -155,6 +155,7 @@ pub(crate) fn parts_of(id: WriteId) -> (u32, u32)
 pub fn day_text(alloc: Global, day: Day) -> Result<String, Error>
     ensures { IfOk result (λ text. (string_bytes text ≡ date_text day) × IsTrue (is_date day)) }
 {
+    // For the prover alone: the day is within the calendar.
     day.is_within_calendar();
     Ok(format!(in alloc; "{day}")?)
 }

@@ -61,6 +61,7 @@ fn begin<S: Alter>(
         (λ db. (trees : Trees) → IsTaken trees (state S.Store conn.old) → IsAdopted server primary trees db) }
     ensures cause { IfErr result (λ e. (e ≡ Refusal.OutOfMemory) ⊎ (e ≡ Refusal.Store)) }
 {
+    // For the prover alone: servers are from 1 to 99.
     server.number();
     primary.number();
     let row = MetaRow::opening(server, primary);
@@ -70,7 +71,7 @@ fn begin<S: Alter>(
     }
 }
 
-// Finds the row of `meta` in a database with our tables. It is refused where there is none.
+// Finds the row of `meta` in a database with our tables. It is refused if there is none.
 fn find_row<S: Alter>(conn: &mut Connection<S>, alloc: Global) -> Result<MetaRow, Refusal>
     requires autocommit { conn.old.in_transaction ≡ false }
     ensures autocommit { conn.new.in_transaction ≡ false }
@@ -94,7 +95,7 @@ fn find_row<S: Alter>(conn: &mut Connection<S>, alloc: Global) -> Result<MetaRow
     }
 }
 
-/// Finds the row of `meta` in a database with our tables. It is refused where there is none, or one of another schema.
+/// Finds the row of `meta` in a database with our tables. It is refused if there is none, or one of another schema.
 fn find<S: Alter>(conn: &mut Connection<S>, alloc: Global) -> Result<MetaRow, Refusal>
     requires autocommit { conn.old.in_transaction ≡ false }
     ensures autocommit { conn.new.in_transaction ≡ false }
@@ -155,7 +156,7 @@ fn resume<S: Alter>(
     }
 }
 
-/// Makes the tables of this server and primary where there are none, or finds them, and moves those of the first schema up.
+/// Makes the tables of this server and primary if there are none, or finds them, and moves those of the first schema up.
 pub(crate) fn adopt_tables<S: Alter>(
     conn: &mut Connection<S>,
     alloc: Global,

@@ -269,7 +269,7 @@ fn choose(
     }
 }
 
-/// The row of the write with this id, where it is of that room.
+/// The row of the write with this id, if it is of that room.
 pub(crate) fn place_of<S: Alter>(
     conn: &mut Connection<S>,
     alloc: Global,

@@ -138,7 +138,7 @@ fn fill<S: Alter>(tx: &mut Transaction<'_, S>, row: &MetaRow) -> Result<(), Erro
     Ok(())
 }
 
-/// Makes the tables with the row of `meta`, in one transaction. Where it is refused, the database is as it was.
+/// Makes the tables with the row of `meta`, in one transaction. If it is refused, the database is as it was.
 pub(crate) fn create<S: Alter>(conn: &mut Connection<S>, row: &MetaRow) -> Result<(), Error>
     requires autocommit { conn.old.in_transaction ≡ false }
     ensures autocommit { conn.new.in_transaction ≡ false }

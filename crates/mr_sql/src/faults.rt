@@ -3,7 +3,7 @@ ghost use Rattle.std.specs.Prelude.{◌≡◌, ◌≢◌, ◌⊎◌};
 use mr_base::Refusal;
 use sqlite::{Error, ErrorCode};
 
-/// Want of memory, or else a failure of the store.
+/// Out of memory, or else a failure of the store.
 pub(crate) fn refusal_of(error: Error) -> Refusal
     ensures cause { (result ≡ Refusal.OutOfMemory) ⊎ (result ≡ Refusal.Store) }
     ensures memory { error ≡ Error.SqliteFailure ErrorCode.OutOfMemory → result ≡ Refusal.OutOfMemory }
@@ -15,7 +15,7 @@ pub(crate) fn refusal_of(error: Error) -> Refusal
     }
 }
 
-/// The same where the store's disks are in memory, of which a call fails where memory is wanting.
+/// The same if the store's disks are in memory: a call of them fails if there is no memory.
 pub(crate) fn refusal_in_memory(error: Error) -> Refusal
     ensures cause { (result ≡ Refusal.OutOfMemory) ⊎ (result ≡ Refusal.Store) }
     ensures disk { error ≡ Error.SqliteFailure ErrorCode.SystemIoFailure → result ≡ Refusal.OutOfMemory }

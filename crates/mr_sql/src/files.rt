@@ -32,7 +32,7 @@ use std::rt::HostRuntime;
 /// A keeper whose tables lie in a file.
 pub type FileKeeper = KeeperFrom<Unknown>;
 
-/// A keeper whose tables lie in a file, where the type stands for what that and its log held.
+/// A keeper whose tables lie in a file; the type stands for what that and its log held.
 pub type KeeperFrom<B> = SqlKeeper<FileStore<SparingFile<B>>>;
 
 /// A keeper whose tables lie in a copy of a file, in memory.
@@ -135,7 +135,7 @@ fn open<B: Start>(
     }
 }
 
-// Copies the two files, where they can be.
+// Copies the two files, if they can be.
 fn copied_at(rt: &HostRuntime, path: &str) -> Result<Copied, NotCopied>
     ensures { IfErr result (λ e. (r : _) → e ≡ NotCopied.Refused r → (r ≡ Refusal.OutOfMemory) ⊎ (r ≡ Refusal.Store)) }
 {
@@ -211,7 +211,7 @@ fn is_missing(rt: &HostRuntime, path: &str) -> bool {
 }
 
 impl<B: Start> SqlKeeper<FileStore<SparingFile<B>>> {
-    /// Opens the file as the database of this server and primary, and makes file and tables where there are none yet. Tables of
+    /// Opens the file as the database of this server and primary, and makes file and tables if there are none yet. Tables of
     /// the first schema are moved up. A file that can't be opened as a database is refused with 25, and the database of another
     /// program or replica with 26. What was opened of a file that is refused is given back. That the path is that of the files
     /// which the type stands for is up to the caller.
@@ -247,7 +247,7 @@ impl<B: Start> SqlKeeper<FileStore<SparingFile<B>>> {
     }
 
     /// Opens the file as the database of a replica, whichever it is. Tables of the first schema are moved up before it answers. A
-    /// file that can't be opened as a database is refused with 25. Where there is no file, or its database isn't that of a
+    /// file that can't be opened as a database is refused with 25. If there is no file, or its database isn't that of a
     /// replica, it is refused with 26. It makes no file.
     pub fn open_from(rt: &HostRuntime, path: &str, start: B) -> Result<KeeperFrom<B>, NotTaken<B>>
         ensures opened { IfOk result (λ k. HasCleanDisk (file_state k.0) → IsTrue (file_state k.0).is_open
@@ -301,7 +301,7 @@ impl SqlKeeper<FileStore<Memory>> {
         }
     }
 
-    /// As `open_copied`, of what the files at the path hold as they are read, which is all that is done with them. Where there is no file,
+    /// As `open_copied`, of what the files at the path hold as they are read, which is all that is done with them. If there is no file,
     /// it is refused with 26.
     pub fn open_copy(rt: &HostRuntime, path: &str) -> Result<CopyKeeper, NotCopied>
         ensures opened { IfOk result (λ k. HasCleanDisk (file_state k.0) → IsTrue (file_state k.0).is_open
@@ -320,7 +320,7 @@ impl SqlKeeper<FileStore<Memory>> {
 }
 
 impl<D: Disk + Drop> SqlKeeper<FileStore<D>> {
-    /// Gives the files back, once what the store has in its log is copied into the database file, so that it stands alone. Where
+    /// Gives the files back, once what the store has in its log is copied into the database file, so that it stands alone. If
     /// that fails, the store is given back, and the log keeps it.
     pub fn close_files(self) -> Result<Files<D>, FileStore<D>>
         ensures copied { IfOk result (λ files. AreClean D.Disk files.log files.db → IsCopied self.0 files) }

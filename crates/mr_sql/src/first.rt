@@ -1,4 +1,4 @@
-//! Databases of the first schema, which are moved up where they are opened.
+//! Databases of the first schema, which are moved up when they are opened.
 
 ghost use Rattle.std.specs.Prelude.{◌≡◌, ◌⊎◌, false, None, IfOk, IfErr, OnOk, OnErr, IsTrue};
 ghost use Rattle.sqlite_trees.specs.Tree.{Trees};
@@ -26,7 +26,7 @@ use mr_tables::MetaRow;
 use sqlite::{Alter, Connection};
 use std::alloc::Global;
 
-// Finds the row of `meta` in a database with the first schema's tables. It is refused where there is none.
+// Finds the row of `meta` in a database with the first schema's tables. It is refused if there is none.
 fn find_first_row<S: Alter>(conn: &mut Connection<S>, alloc: Global) -> Result<MetaRow, Refusal>
     requires autocommit { conn.old.in_transaction ≡ false }
     ensures autocommit { conn.new.in_transaction ≡ false }
@@ -50,7 +50,7 @@ fn find_first_row<S: Alter>(conn: &mut Connection<S>, alloc: Global) -> Result<M
     }
 }
 
-/// Finds the row of `meta` in a database with the first schema's tables. It is refused where there is none, or one of another schema.
+/// Finds the row of `meta` in a database with the first schema's tables. It is refused if there is none, or one of another schema.
 pub(crate) fn find_old<S: Alter>(
     conn: &mut Connection<S>,
     alloc: Global,

@@ -110,7 +110,7 @@ impl<S: Alter + Drop> FirstKeeper<S> {
     }
 
     /// Moves the tables up to the second schema, in one transaction. `log` takes the place of `write_log` and `undo`, which stay there
-    /// without rows; all other rows stay. Where a row of either has no partner in the other, it is refused with 25. What a refusal gives
+    /// without rows; all other rows stay. If a row of either has no partner in the other, it is refused with 25. What a refusal gives
     /// back can be moved up again, unless the store failed.
     pub fn move_up(self) -> Result<SqlKeeper<S>, (FirstKeeper<S>, Refusal)>
         ensures opens { IfOk result (λ k. HasCleanDisk (state S.Store k.0) → IsTrue (state S.Store k.0).is_open) }

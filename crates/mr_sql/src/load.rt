@@ -47,7 +47,7 @@ pub(crate) fn load_desk<S: Alter>(conn: &mut Connection<S>, alloc: Global) -> Re
     desk_of(alloc, &tables)
 }
 
-/// These tables, where their rows agree with each other.
+/// These tables, if their rows agree with each other.
 fn agreeing(alloc: Global, tables: Tables) -> Result<Tables, Error>
     ensures same { IfOk result (λ agreeing. agreeing ≡ tables) }
     ensures agree { IfOk result (λ agreeing. agree tables ≡ true) }
@@ -59,7 +59,7 @@ fn agreeing(alloc: Global, tables: Tables) -> Result<Tables, Error>
     }
 }
 
-/// All tables of this database, where their rows agree with each other.
+/// All tables of this database, if their rows agree with each other.
 pub(crate) fn read_agreeing<S: Alter>(
     conn: &mut Connection<S>,
     alloc: Global,

@@ -30,7 +30,7 @@ fn numbers_alone(alloc: Global, meta: MetaRow, vector: Vec<VectorRow>) -> Tables
     }
 }
 
-/// Refuses these rows of `meta` and `vector` where they contradict each other.
+/// Refuses these rows of `meta` and `vector` if they contradict each other.
 fn test_numbers(alloc: Global, meta: MetaRow, vector: Vec<VectorRow>) -> Result<(), Error>
     ensures { OnOk result ((t : TablesSeen) → t.meta ≡ meta → t.vector ≡ vector.items → agree_in t ≡ true) }
 {

@@ -1,4 +1,4 @@
-//! What the tables of a database have to be, told a second time beside the statements that make them: so a schema that is found is compared
+//! What the tables of a database have to be, said a second time beside the statements that make them: so a schema that is found is compared
 //! with no database made to compare it with.
 
 use sqlite_schema::schema::Kind;
@@ -8,7 +8,7 @@ pub(crate) struct Wanted {
     pub(crate) name: &'static str,
     /// Names and kinds. Each column is strict and takes no NULL, and none has a default.
     pub(crate) columns: &'static [(&'static str, Kind)],
-    /// The places of the columns of the primary key, counted from 1. There are none where the key is merely unique.
+    /// The places of the columns of the primary key, counted from 1. There are none if the key is merely unique.
     pub(crate) primary: &'static [usize],
     /// The places of the columns of the key.
     pub(crate) key: &'static [usize],

@@ -51,7 +51,7 @@ pub(crate) fn bookings<S: Alter>(
     answers::bookings_of(conn, alloc, room, day)
 }
 
-/// The row of the write with this id, where it is of that room.
+/// The row of the write with this id, if it is of that room.
 pub(crate) fn place_of<S: Alter>(
     conn: &mut Connection<S>,
     alloc: Global,

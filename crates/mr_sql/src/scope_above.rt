@@ -21,7 +21,7 @@ impl RowTest<LogRow> for AboveTest {
     }
 }
 
-/// The rows among which all of these are, where so many commits are known: the tentative ones, and where there is a commit above the
+/// The rows among which all of these are, if so many commits are known: the tentative ones, and if there is a commit above the
 /// number all others too.
 pub(crate) fn rows_above(number: u64, commits: u64) -> LateRows
     ensures { ReachesAbove result number commits }

@@ -49,7 +49,7 @@ fn is_in_tail(tail: &Tail, row: &Row) -> Result<bool, Error>
 }
 
 impl LateTest {
-    /// That of a batch, where so many commits are known and these are the rows of the ids that it names.
+    /// That of a batch, if so many commits are known and these are the rows of the ids that it names.
     pub(crate) fn of(
         alloc: Global,
         items: &[Item],
@@ -85,7 +85,7 @@ fn number_of(item: &Item) -> u64
     }
 }
 
-/// A number that no known commit which the items name is above, where so many commits are known; 0 where they name none.
+/// A number that no known commit which the items name is above, if so many commits are known; 0 if they name none.
 fn last_named(items: &[Item], commits: u64) -> u64
     ensures { (number : ℕ) → number ≤ commits → list_any (has_number number) (map item_of items.now) ≡ true → number ≤ result }
 {
@@ -109,7 +109,7 @@ fn first_time(tail: &Tail) -> u64
     }
 }
 
-/// The rows among which are all that pass the test of these items, where so many commits are known.
+/// The rows among which are all that pass the test of these items, if so many commits are known.
 pub(crate) fn late_rows(items: &[Item], commits: u64, tail: &Tail) -> LateRows
     ensures { ReachesTail result tail.now commits (map item_of items.now) }
 {

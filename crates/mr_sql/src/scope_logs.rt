@@ -88,7 +88,7 @@ fn test_of(alloc: Global, items: &[Item], commits: u64, named: &[LogRow]) -> Res
     }
 }
 
-/// The rows of the ids that a batch names, and those of these rows that pass its test. No row has a time above the clock: where these
+/// The rows of the ids that a batch names, and those of these rows that pass its test. No row has a time above the clock: if these
 /// rows begin behind it, there are none.
 fn with_late<S: Alter>(
     conn: &mut Connection<S>,

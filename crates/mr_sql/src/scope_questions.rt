@@ -25,7 +25,7 @@ pub(crate) fn tentative_rows(alloc: Global) -> Result<Vec<NumberQuestion>, Alloc
     one_question(alloc, 0, 0)
 }
 
-/// For the commits up to this number, where so many are known.
+/// For the commits up to this number, if so many are known.
 pub(crate) fn rows_up_to(
     alloc: Global,
     number: u64,

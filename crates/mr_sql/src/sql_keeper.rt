@@ -54,7 +54,7 @@ impl<S: Alter> Model for SqlKeeper<S> {
         × (HasCleanDisk (state S.Store k.conn) → IsTrue (state S.Store k.conn).is_open → IsKept (state S.Store k.conn)) };
 }
 
-/// The fault that an error is, counted where the store failed. A count that is full is reported as out of memory.
+/// The fault that an error is, counted if the store failed. A count that is full is reported as out of memory.
 fn fault_of(failures: &mut u64, error: Error) -> Fault
     ensures counted { failures.new ≡ failures_for result failures.old }
     ensures memory { error ≡ Error.SqliteFailure ErrorCode.OutOfMemory → result ≡ Fault.OutOfMemory }
@@ -180,6 +180,7 @@ impl SqlKeeper<MemStore> {
         ensures cause { IfErr result (λ e. (e ≡ Refusal.OutOfMemory) ⊎ (e ≡ Refusal.Store)) }
     {
         let mut conn = open_connection(alloc)?;
+        // For the prover alone: servers are from 1 to 99.
         server.number();
         primary.number();
         let row = MetaRow::opening(server, primary);
@@ -194,7 +195,7 @@ impl SqlKeeper<MemStore> {
     }
 }
 
-/// What a refused adoption gives back: the connection, or the store alone where that couldn't be read as a database.
+/// What a refused adoption gives back: the connection, or the store alone if that couldn't be read as a database.
 #[derive(Drop)]
 pub enum GivenBack<S: Alter> {
     Connection(Connection<S>),
@@ -202,8 +203,8 @@ pub enum GivenBack<S: Alter> {
 }
 
 impl<S: Alter + Drop> SqlKeeper<S> {
-    /// Makes the database of a connection the keeper's. Where it has no table, it gets those of a replica that knows nothing
-    /// yet; where it is the database of this server and primary, it stays as it is, or is moved up from the first schema. Any
+    /// Makes the database of a connection the keeper's. If it has no table, it gets those of a replica that knows nothing
+    /// yet; if it is the database of this server and primary, it stays as it is, or is moved up from the first schema. Any
     /// other is refused with 26, with nothing written, and one whose rows break their rules with 25. What the connection hasn't
     /// committed is rolled back.
     pub fn adopt(
@@ -294,7 +295,7 @@ impl<S: Alter + Drop> SqlKeeper<S> {
 }
 
 impl<S: Alter + Drop> SqlKeeper<S> {
-    /// The keeper, where the rows of its tables agree with each other. Else it is refused with 25, and let go as it is. It reads all rows.
+    /// The keeper, if the rows of its tables agree with each other. Else it is refused with 25, and let go as it is. It reads all rows.
     pub(crate) fn agreeing(self) -> Result<SqlKeeper<S>, Refusal>
         ensures agree { IfOk result (λ k. HasCleanDisk (state S.Store k.0) → IsTrue (state S.Store k.0).is_open
             → agree (tables_in (state S.Store k.0).now.trees) ≡ true) }
