@@ -11,8 +11,11 @@ use Rattle.mr_model.specs.Moving.{BatchMoves}
 use Rattle.mr_model.specs.Tables.{seq_of, tables_of}
 use Rattle.mr_part.specs.declared.kept_rows.KeptRow.{KeptRow}
 use Rattle.mr_part.specs.declared.kept_writes.NumberedWrite.{NumberedWrite}
+use Rattle.mr_part.specs.declared.movable.Moving.{Moving}
 use Rattle.mr_part.specs.KeptWrites.{numbered_of}
+use Rattle.mr_part.specs.Sets.{IsSetOf}
 use Rattle.mr_part.specs.Taken.{CoversScope}
+use Rattle.mr_part.specs.Tails.{IsTail}
 
 -- the rooms that an item touches, where so many commits are known and these are the kept writes that it may name
 abbrev pub rooms_named : ℕ → List Write → Item → List Text
@@ -22,6 +25,17 @@ rooms_named commits ws (C seq id) = if nat_lt commits seq then map (λ w. w.room
 -- these are the rooms that the items touch
 abbrev pub AreTouched : List Text → Replica → List Item → Type 0
 AreTouched touched a items = (room : Text) → list_any (bytes_eq room) touched ≡ is_touched (tables_of a) items room
+
+-- the items touch these rooms, and their tail is that, where so many commits are known
+pub record IsMoving (moving : Moving) (touched : List Text) (commits : ℕ) (items : List Item) : Type 0 where
+  pub rooms_are : IsSetOf moving.rooms touched
+  pub tail_is : IsTail moving.tail commits items
+
+-- the same of a replica
+pub record IsMovingOf (moving : Moving) (a : Replica) (items : List Item) : Type 0 where
+  pub touched : List Text
+  pub moving_is : IsMoving moving touched (length a.commits) items
+  pub are_touched : AreTouched touched a items
 
 -- whether a tentative write may move, where the items touch these rooms
 abbrev pub moves_in : List Text → List Item → ℕ → Write → Bool

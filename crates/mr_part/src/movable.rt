@@ -7,27 +7,36 @@ ghost use Rattle.mr_model.specs.Replica.{Replica};
 ghost use Rattle.mr_model.specs.Moving.{again};
 ghost use Rattle.mr_base.specs.Batches.{item_of};
 ghost use Rattle.mr_part.specs.KeptRows.{row_writes};
-ghost use Rattle.mr_part.specs.Moves.{ShowsMoves, rooms_named, moves_in, moves_row, is_anew};
-ghost use Rattle.mr_part.specs.Sets.{has_id, has_room, IsSetOf, AreSameRooms};
+ghost use Rattle.mr_part.specs.Moves.{IsMoving, ShowsMoves, rooms_named, moves_in, moves_row, is_anew};
+ghost use Rattle.mr_part.specs.Sets.{has_id, has_room, IsSetOf};
 ghost use Rattle.mr_part.specs.Tails.{IsTail};
 
 use crate::kept_rows::KeptRow;
 use crate::kept_writes::NumberedWrite;
-use crate::room_sets::{RoomSet, names_of, room_set};
+use crate::room_sets::RoomSet;
 use crate::tail::{Tail, tail_of};
 use crate::touched::{IdSet, Touched, add_if_named};
-use mr_base::{Item, Refusal, RoomName, Write};
+use mr_base::{Item, Refusal, Write};
 use std::alloc::Global;
 
-/// The rooms whose writes the items may move, each once, if so many commits are known: those of their writes, and those of
-/// these kept writes that new commits name.
-pub fn rooms_touched(
+/// Which tentative writes the items of a batch may move. It is made once for a batch.
+#[derive(Drop)]
+pub struct Moving {
+    /// The rooms that the items touch.
+    pub rooms: RoomSet,
+    pub tail: Tail,
+}
+
+/// Which tentative writes these items may move, if so many commits are known and these are the kept writes that the items may name: the rooms are
+/// those of their writes, and those of the kept writes that new commits name.
+pub fn moving_by(
     alloc: Global,
     kept: &[KeptRow],
     items: &[Item],
     commits: u64,
-) -> Result<Vec<RoomName>, Refusal>
-    ensures rooms { IfOk result (λ rooms. AreSameRooms rooms.items (flat_map (rooms_named commits (row_writes kept.now)) (map item_of items.now))) }
+) -> Result<Moving, Refusal>
+    ensures moving { IfOk result
+        (λ moving. IsMoving moving (flat_map (rooms_named commits (row_writes kept.now)) (map item_of items.now)) commits (map item_of items.now)) }
     ensures only { IfErr result (λ e. e ≡ Refusal.OutOfMemory) }
 {
     let Touched {
@@ -35,8 +44,8 @@ pub fn rooms_touched(
         mut rooms,
     } = Touched::by(alloc, items, commits)?;
     add_rows(alloc, &mut rooms, &committed, kept)?;
-    let names = names_of(alloc, rooms)?;
-    Ok(names)
+    let tail = tail_of(items, commits);
+    Ok(Moving { rooms, tail })
 }
 
 /// Adds the rooms of the writes of these ids.
@@ -74,22 +83,19 @@ pub fn moves_row(row: &KeptRow, rooms: &RoomSet, tail: &Tail) -> bool
     row.seq == 0 && may_move(&row.write, rooms, tail)
 }
 
-/// The writes that are executed anew, if so many commits were known and the items touch these rooms: the new commits, and
-/// behind them the tentative ones that may move.
+/// The writes that are executed anew, if so many commits were known and these tentative writes may move: the new commits, and
+/// behind them those that may move.
 pub fn again_in(
     alloc: Global,
     kept: &[NumberedWrite],
-    touched: &[RoomName],
-    items: &[Item],
+    moving: &Moving,
     commits: u64,
 ) -> Result<Vec<Write>, Refusal>
-    ensures writes { (a b : Replica) (inside : WriteOfRoom → Bool) (m : ShowsMoves a b (map item_of items.now) inside touched.now commits kept.now)
-        → IfOk result (λ writes. writes.items ≡ again a (map item_of items.now) m.moves.news b) }
+    ensures writes { (a b : Replica) (items : List ItemOfBatch) (inside : WriteOfRoom → Bool) (touched : List Text) → IsMoving moving.now touched commits items
+        → (m : ShowsMoves a b items inside touched commits kept.now) → IfOk result (λ writes. writes.items ≡ again a items m.moves.news b) }
     ensures only { IfErr result (λ e. e ≡ Refusal.OutOfMemory) }
 {
-    let rooms = room_set(alloc, touched)?;
-    let tail = tail_of(items, commits);
-    let writes = writes_anew(alloc, kept, &rooms, &tail, commits)?;
+    let writes = writes_anew(alloc, kept, &moving.rooms, &moving.tail, commits)?;
     Ok(writes)
 }
 

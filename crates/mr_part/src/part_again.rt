@@ -8,7 +8,7 @@ ghost use Rattle.mr_model.specs.View.{place_of};
 ghost use Rattle.mr_base.specs.Batches.{item_of};
 ghost use Rattle.mr_part.specs.Logged.{undo_with};
 ghost use Rattle.mr_part.specs.KeptRows.{row_undos};
-ghost use Rattle.mr_part.specs.Moves.{AreTouched, moves_row};
+ghost use Rattle.mr_part.specs.Moves.{IsMovingOf, moves_row};
 ghost use Rattle.mr_part.specs.Sets.{IsSetOf};
 ghost use Rattle.mr_part.specs.Tails.{IsTail};
 ghost use Rattle.mr_part.specs.PartMoves.{AreUndone};
@@ -16,42 +16,35 @@ ghost use Rattle.mr_part.specs.Parts.{IsPartOf};
 
 use crate::Part;
 use crate::kept_rows::KeptRow;
-use crate::movable::{moves_row, rooms_touched};
+use crate::movable::{Moving, moves_row, moving_by};
 use crate::room_moves::{MovesOfRooms, undone_in_rooms};
-use crate::room_sets::{RoomSet, room_set};
-use crate::tail::{Tail, tail_of};
-use mr_base::{Item, Refusal, RoomName};
+use crate::room_sets::RoomSet;
+use crate::tail::Tail;
+use mr_base::{Item, Refusal};
 use mr_replay::UndoRow;
 use std::alloc::Global;
 
 impl Part {
-    /// The rooms whose writes the items may move, each once.
-    pub(crate) fn touched_by(&self, items: &[Item]) -> Result<Vec<RoomName>, Refusal>
-        ensures rooms { (a : Replica) → IsReplica a → IsPartOf self.now (OfItems (map item_of items.now)) a
-            → IfOk result (λ rooms. AreTouched rooms.items a (map item_of items.now)) }
+    /// Which tentative writes the items may move.
+    pub(crate) fn moving(&self, items: &[Item]) -> Result<Moving, Refusal>
+        ensures moving { (a : Replica) → IsReplica a → IsPartOf self.now (OfItems (map item_of items.now)) a
+            → IfOk result (λ moving. IsMovingOf moving a (map item_of items.now)) }
         ensures only { IfErr result (λ e. e ≡ Refusal.OutOfMemory) }
     {
-        let rooms = rooms_touched(self.alloc, &self.kept, items, self.summary.commits)?;
-        Ok(rooms)
+        let moving = moving_by(self.alloc, &self.kept, items, self.summary.commits)?;
+        Ok(moving)
     }
 
-    /// What undoes the tentative writes that the items may move, if they touch these rooms: in the order of execution, and by
-    /// rooms.
-    pub(crate) fn undone_by(
-        &self,
-        touched: &[RoomName],
-        items: &[Item],
-    ) -> Result<(Vec<UndoRow>, MovesOfRooms), Refusal>
-        ensures rows { (a : Replica) → IsReplica a → IsPartOf self.now (OfItems (map item_of items.now)) a → AreTouched touched.now a (map item_of items.now)
-            → IfOk result (λ undone. undone.0.items ≡ map (undo_with (place_of a)) (filter (may_move_from a (map item_of items.now)) (tentative a))) }
-        ensures rooms { (a : Replica) → IsReplica a → IsPartOf self.now (OfItems (map item_of items.now)) a → AreTouched touched.now a (map item_of items.now)
-            → IfOk result (λ undone. AreUndone undone.1 a (map item_of items.now)) }
+    /// What undoes these tentative writes that the items may move: in the order of execution, and by rooms.
+    pub(crate) fn undone_by(&self, moving: &Moving) -> Result<(Vec<UndoRow>, MovesOfRooms), Refusal>
+        ensures rows { (a : Replica) (items : List ItemOfBatch) → IsReplica a → IsPartOf self.now (OfItems items) a → IsMovingOf moving.now a items
+            → IfOk result (λ undone. undone.0.items ≡ map (undo_with (place_of a)) (filter (may_move_from a items) (tentative a))) }
+        ensures rooms { (a : Replica) (items : List ItemOfBatch) → IsReplica a → IsPartOf self.now (OfItems items) a → IsMovingOf moving.now a items
+            → IfOk result (λ undone. AreUndone undone.1 a items) }
         ensures only { IfErr result (λ e. e ≡ Refusal.OutOfMemory) }
     {
-        let rooms = room_set(self.alloc, touched)?;
-        let tail = tail_of(items, self.summary.commits);
-        let undo = moving_rows(self.alloc, &self.kept, &rooms, &tail)?;
-        let in_rooms = undone_in_rooms(self.alloc, &self.kept, &rooms, &tail)?;
+        let undo = moving_rows(self.alloc, &self.kept, &moving.rooms, &moving.tail)?;
+        let in_rooms = undone_in_rooms(self.alloc, &self.kept, &moving.rooms, &moving.tail)?;
         Ok((undo, in_rooms))
     }
 }

@@ -13,7 +13,7 @@ ghost use Rattle.mr_base.specs.Batches.{item_of};
 ghost use Rattle.mr_tables.specs.Change.{ChangeView};
 ghost use Rattle.mr_part.specs.Answering.{NeverStore, nothing_taken};
 ghost use Rattle.mr_part.specs.DueLines.{IsRefused};
-ghost use Rattle.mr_part.specs.Moves.{AreTouched};
+ghost use Rattle.mr_part.specs.Moves.{IsMovingOf};
 ghost use Rattle.mr_part.specs.PartMoves.{AnswersItems, AreUndone};
 ghost use Rattle.mr_part.specs.Parts.{IsPartOf, TakesPart};
 ghost use Rattle.mr_part.specs.Logged.{undo_with};
@@ -22,10 +22,10 @@ use crate::Part;
 use crate::candidate::reached_with;
 use crate::changes::no_change;
 use crate::due_lines::due_line;
-use crate::movable::again_in;
+use crate::movable::{Moving, again_in};
 use crate::part_moved::moved;
 use crate::room_moves::MovesOfRooms;
-use mr_base::{Batch, Item, Refusal, RoomName};
+use mr_base::{Batch, Item, Refusal};
 use mr_replay::UndoRow;
 use mr_tables::Change;
 
@@ -62,24 +62,24 @@ impl Part {
             → TakesPart (OfItems (map item_of items.now)) (λ a. after_items a (take_items (map item_of items.now) 2 (Ok (nothing_taken a)))) (λ _ taken. Took taken.0 taken.1) (λ taken. taken.2) self result }
         ensures own { NeverStore result }
     {
-        let touched = self.touched_by(items)?;
-        let undone = self.undone_by(&touched, items)?;
+        let moving = self.moving(items)?;
+        let undone = self.undone_by(&moving)?;
         let (undone, in_rooms) = undone;
-        let taken = self.take_undone(items, &touched, &undone, in_rooms)?;
+        let taken = self.take_undone(items, &moving, &undone, in_rooms)?;
         Ok(taken)
     }
 
-    /// The same, if the items touch these rooms, and these executions are undone in them, which stand there by rooms too. The
-    /// kept writes and the board are moved into what is reached.
+    /// The same, if the items may move these tentative writes, whose executions are undone so, in order and by rooms. The kept writes and the
+    /// board are moved into what is reached.
     fn take_undone(
         self,
         items: &[Item],
-        touched: &[RoomName],
+        moving: &Moving,
         undone: &[UndoRow],
         in_rooms: MovesOfRooms,
     ) -> Result<(u64, u64, Change), Refusal>
         ensures step { IsTrue (list_all (is_item Second) (map item_of items.now)) → length items.now + 2 < 2 ^ 64 → (a : Replica) → IsReplica a → IsPartOf self (OfItems (map item_of items.now)) a
-            → AreTouched touched.now a (map item_of items.now) → undone.now ≡ map (undo_with (place_of a)) (filter (may_move a (map item_of items.now)) (tentative a))
+            → IsMovingOf moving.now a (map item_of items.now) → undone.now ≡ map (undo_with (place_of a)) (filter (may_move a (map item_of items.now)) (tentative a))
             → AreUndone in_rooms a (map item_of items.now) → AnswersItems a (map item_of items.now) result }
         ensures own { NeverStore result }
     {
@@ -94,7 +94,7 @@ impl Part {
         let reached = reached_with(alloc, summary, &rooms, kept, items)?;
         let writes = (reached.kept.len() as u64).saturating_sub(had);
         let commits = reached.summary.commits.saturating_sub(summary.commits);
-        let again = again_in(alloc, &reached.kept, touched, items, summary.commits)?;
+        let again = again_in(alloc, &reached.kept, moving, summary.commits)?;
         let change = moved(
             alloc, &summary, &rooms, board, &reached, undone, in_rooms, &again,
         )?;

@@ -1,10 +1,11 @@
-use Rattle.std.proofs.Common.{◌≡◌, ◌-◌, Err, length, map, ap, ◌∙◌, inr, arith}
+use Rattle.std.proofs.Common.{◌≡◌, ◌-◌, Err, length, map, ap, sym, subst, ◌∙◌, inr, arith}
 use Rattle.std.specs.List.{filter}
 use Rattle.std.proofs.lemmas.Result.{err_from_is_err_and}
 use Rattle.mr_model.specs.Kept.{kept_in_order}
 use Rattle.mr_model.proofs.Moved.{batches_move_touched_rooms}
 use Rattle.mr_base.specs.Batches.{item_of}
 use Rattle.mr_part.specs.Answering.{nothing_taken}
+use Rattle.mr_part.specs.Moves.{IsMoving}
 use Rattle.mr_part.specs.Taken.{ReachedView, is_inside}
 use Rattle.mr_part.specs.Parts.{PartView}
 use Rattle.mr_part.specs.KeptWrites.{numbered_of}
@@ -14,7 +15,7 @@ use Rattle.mr_part.proofs.ReceivingPart.{part_received, part_refused}
 use Rattle.mr_part.proofs.part.Part.take_undone.Goals as goal
 
 pub returns-in_err-reached-clause-step : goal.returns-in_err-reached-clause-step
-returns-in_err-reached-clause-step c = λ good short a sound part touched undone in_rooms.
+returns-in_err-reached-clause-step c = λ good short a sound part moving undone in_rooms.
     let x = err_from_is_err_and c.from_residual.result c.from_residual.ensures.1 in
     let items = map item_of c.args.items.now in
     let e = c.self.view_is ∙ part in
@@ -22,17 +23,17 @@ returns-in_err-reached-clause-step c = λ good short a sound part touched undone
     (c.in_err-reached.ensures.takes a (is_inside a items) sound good short (λ w h. h) (ap (λ (v : PartView). v.summary) e) (c.deref.ensures.value ∙ ap (λ (v : PartView). v.rooms) e) (ap (λ (v : PartView). v.kept) e))
 
 pub returns-in_err-again-clause-step : goal.returns-in_err-again-clause-step
-returns-in_err-again-clause-step c = λ good short a sound part touched undone in_rooms.
+returns-in_err-again-clause-step c = λ good short a sound part moving undone in_rooms.
     let x = err_from_is_err_and c.from_residual-in_err-again.result c.from_residual-in_err-again.ensures.1 in
     inr (x.1 ∙ ap Err (x.2 ∙ c.in_err-again.ensures.only))
 
 pub returns-in_err-change-clause-step : goal.returns-in_err-change-clause-step
-returns-in_err-change-clause-step c = λ good short a sound part touched undone in_rooms.
+returns-in_err-change-clause-step c = λ good short a sound part moving undone in_rooms.
     let x = err_from_is_err_and c.from_residual-in_err-change.result c.from_residual-in_err-change.ensures.1 in
     inr (x.1 ∙ ap Err (x.2 ∙ c.in_err-change.ensures.only))
 
 pub returns-clause-step : goal.returns-clause-step
-returns-clause-step c = λ good short a sound part touched undone in_rooms.
+returns-clause-step c = λ good short a sound part moving undone in_rooms.
     let items = map item_of c.args.items.now in
     let e = c.self.view_is ∙ part in
     let (p, exact, shows) = c.in_ok-reached.ensures.takes a (is_inside a items) sound good short (λ w h. h) (ap (λ (v : PartView). v.summary) e) (c.deref.ensures.value ∙ ap (λ (v : PartView). v.rooms) e) (ap (λ (v : PartView). v.kept) e) in
@@ -40,7 +41,8 @@ returns-clause-step c = λ good short a sound part touched undone in_rooms.
     let view = c.reached.view_is in
     let m = batches_move_touched_rooms items 2 (nothing_taken a) p sound (all_within items good) exact in
     let kept : c.deref-2.result.now ≡ map (numbered_of b) (filter (is_inside a items) (kept_in_order b)) = c.deref-2.ensures.value ∙ ap (λ (v : ReachedView). v.kept) view ∙ shows.kept in
-    let writes = c.in_ok-again.ensures.writes a b (is_inside a items) (record { sound = sound; moves = m; are_touched = touched; commits_are = ap (λ (v : PartView). v.summary.commits) e; covers = λ w h. h; kept_are = kept; marks = shows.marks }) in
+    let moves = subst (λ n. IsMoving c.args.moving.now moving.touched n items) (sym (ap (λ (v : PartView). v.summary.commits) e)) moving.moving_is in
+    let writes = c.in_ok-again.ensures.writes a b items (is_inside a items) moving.touched moves (record { sound = sound; moves = m; are_touched = moving.are_touched; commits_are = ap (λ (v : PartView). v.summary.commits) e; covers = λ w h. h; kept_are = kept; marks = shows.marks }) in
     let turns = c.in_ok-change.ensures.turns items a b (record {
       sound = sound;
       old_is = ap (λ (v : PartView). v.summary) e;
