@@ -4,7 +4,6 @@ import re
 
 import wire
 from standing import FATES, named
-from turns import COUNT, SERVER, TIME
 
 # the refusals of docs/FORMATS.md, but 24: no memory is refused here
 REFUSALS = {1: 'BadDay', 2: 'BadTime', 3: 'BadLength', 4: 'BadRoomName', 5: 'BadTitle', 6: 'TooManyAlternatives', 7: 'UnknownRoom', 8: 'RoomThere',
@@ -37,15 +36,15 @@ def is_store(printed):
 
 
 def do_numbers_agree(rows):
-    """`meta` and `vector` don't contradict each other, and are within the limits."""
+    """`meta` and `vector` don't contradict each other. Numbers beyond the limits, and a time of 0, are seen by the test of all rows alone."""
     if len(rows['meta']) != 1:
         return False
     cells = [cell for row in rows['meta'] + rows['vector'] for cell in row]
     if not all(isinstance(cell, int) for cell in cells):
         return False
     _, _, server, primary, commits, dropped, clock = rows['meta'][0]
-    counted = all(1 <= server <= SERVER and 1 <= n <= COUNT and 1 <= time <= TIME and 0 <= committed <= n for server, n, time, committed in rows['vector'])
-    return (counted and 1 <= server <= SERVER and 1 <= primary <= SERVER and 0 <= dropped <= commits and not (server == primary and dropped)
+    counted = all(n >= 1 and 0 <= committed <= n for _, n, _, committed in rows['vector'])
+    return (counted and 0 <= dropped <= commits and not (server == primary and dropped)
             and commits == sum(row[3] for row in rows['vector']) and clock == max((row[2] for row in rows['vector']), default=0))
 
 
@@ -59,11 +58,12 @@ def is_in_form(line, printed):
     return re.fullmatch(forms[0], first) is not None and bool(lines) == (len(forms) > 1) and all(re.fullmatch(forms[1], each) for each in lines)
 
 
-def faults_of_reply(line, printed, batch):
+def faults_of_reply(line, printed, batch, changes):
+    """What is wrong with a reply. A question shows a row's slot as it stands: that it ends before it begins the test of all rows sees alone."""
     faults = [] if is_in_form(line, printed) else [f'prints what is no reply: {printed[:200]!r}']
     for each in printed.splitlines():
         match = SPAN.search(each)
-        if match:
+        if match and changes:
             start, stop = (60 * int(match[at]) + int(match[at + 1]) for at in (1, 3))
             if not start < stop <= 1440:
                 faults.append(f'shows a slot that ends before it begins: {each!r}')

@@ -10,8 +10,8 @@ reply and the rows behind it have to be those of oracle.py. What no replica has 
 - a question may be answered if it doesn't read what was turned, or if no row shows the turn that it compares with what it reads;
 - a command that changes may be done if no row at all shows the turn (unseen.py).
 
-Then too a reply has its form, no id is given out twice, no write's row is lost or written over, no slot is shown that ends before it begins, and no
-question is answered where `meta` and `vector` contradict each other (rules.py). Answers to questions that differ from those before the turn are
+Then too a reply has its form, no id is given out twice, no write's row is lost or written over, no command that changes shows a slot that ends before
+it begins, and no question is answered where `meta` and `vector` contradict each other (rules.py). Answers to questions that differ from those before the turn are
 counted, and `--shown` lists them. The last line counts what passed and failed.
 """
 
@@ -94,14 +94,15 @@ class Turned:
         rows = as_second(reply.rows)
         if reply.status not in (0, 1) or reply.status == 1 and not is_named(reply.printed):
             return [f'ends strangely: with status {reply.status} and {reply.printed[:300]!r}'], False
-        if reply.status == 1 and (rows != self.rows or is_store(reply.printed) and reply.rows != self.found):
-            # what isn't refused for the rows may be moved up
+        moved = reply.rows != self.found and is_store(reply.printed) and not is_unseen(self.turn, self.rows)
+        if reply.status == 1 and (rows != self.rows or moved):
+            # what isn't refused for the rows may be moved up, and so may what no row shows
             return [f'is refused and changes rows: {reply.printed!r}'], False
         if self.replica:
             return self.faults_of_replica(command, reply, rows), False
         if reply.status == 1:
             return [], False
-        faults = faults_of_reply(command.line, reply.printed, reply.batch)
+        faults = faults_of_reply(command.line, reply.printed, reply.batch, command.changes)
         if command.changes:
             faults += [] if is_unseen(self.turn, self.rows) else ['is done on rows that no replica has']
             return faults + faults_of_change(self.rows, rows, reply.printed), False

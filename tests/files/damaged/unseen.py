@@ -49,7 +49,7 @@ def is_unseen(turn, rows):
     """Whether no row of these, the turned ones, shows the turn."""
     row = dict(zip(COLUMNS[turn.table], turn.row)) | {turn.column: turn.value}
     if (turn.table, turn.column) == ('meta', 'server'):
-        return do_numbers_agree(rows)
+        return do_numbers_agree(rows) and 1 <= rows['meta'][0][2] <= SERVER
     if turn.loose or turn.column not in (*ALONE.get(turn.table, ()), 'choices', 'place'):
         return False
     request = row['server'], row['n']
