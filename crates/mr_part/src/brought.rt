@@ -8,7 +8,7 @@ use mr_base::{Item, Refusal, Write, WriteId};
 use std::alloc::Global;
 use std::collections::BTreeMap;
 
-/// What a batch brings: if the first write of each id stands, from 0, and the id in the first commit of each number.
+/// What a batch brings: the place of the first write of each id, from 0, and the id in the first commit of each number.
 #[derive(Drop)]
 pub(crate) struct Brought {
     pub writes: BTreeMap<WriteId, usize>,

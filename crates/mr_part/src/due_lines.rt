@@ -11,7 +11,7 @@ use mr_base::{Item, Refusal, Write, WriteId};
 use mr_tables::summary::Summary;
 use std::alloc::Global;
 
-/// If kept rows stand, and what a batch brings, as far as memory takes it.
+/// The places of kept rows, and what a batch brings, as far as memory takes them.
 #[derive(Drop)]
 struct Found {
     rows: Option<RowPlaces>,

@@ -7,10 +7,10 @@ use mr_base::{Refusal, WriteId};
 use std::alloc::Global;
 use std::collections::BTreeMap;
 
-/// If kept rows stand, from 0, by the ids of their writes.
+/// The places of kept rows, from 0, by the ids of their writes.
 pub(crate) type RowPlaces = BTreeMap<WriteId, usize>;
 
-/// If these rows stand, as far as memory takes it.
+/// The places of these rows, as far as memory takes them.
 pub(crate) fn places_if_any(alloc: Global, kept: &[KeptRow]) -> Option<RowPlaces>
     ensures { ArePlacesIfAny result kept.now }
 {
@@ -20,7 +20,7 @@ pub(crate) fn places_if_any(alloc: Global, kept: &[KeptRow]) -> Option<RowPlaces
     }
 }
 
-/// If these rows stand. The first row of an id is the one that counts.
+/// The places of these rows. The first row of an id is the one that counts.
 fn row_places(alloc: Global, kept: &[KeptRow]) -> Result<RowPlaces, Refusal>
     ensures { IfOk result (λ places. ArePlaces places kept.now) }
 {

@@ -28,7 +28,7 @@ fn broken(refusal: Refusal, at: usize) -> Error
     }
 }
 
-/// The text in this column, if it lies in the row.
+/// The text in this column, lent where it lies in the row.
 pub(crate) fn text_in(row: &Row, at: usize) -> Result<&str, Error>
     ensures cell { IfOk result (λ text. column row.now at ≡ Text text.now) }
     ensures utf8 { IfOk result (λ text. IsTrue (is_utf8 text.now)) }

@@ -105,7 +105,7 @@ fn change_settled<R: IdRow>(
     Ok(())
 }
 
-/// Takes the row of this write away, if there is one: no other row is looked at, and only those behind it move. It answers if the
+/// Takes the row of this write away, if there is one: no other row is looked at, and only those behind it move. It answers where the
 /// row stood in the list.
 pub(crate) fn take_out_spliced<R: IdRow>(
     rows: &mut Vec<R>,
@@ -126,7 +126,7 @@ pub(crate) fn take_out_spliced<R: IdRow>(
     Some(place)
 }
 
-/// Takes the row of this write out of rows in the order of their ids, if it is there, and answers if it stood.
+/// Takes the row of this write out of rows in the order of their ids, if it is there, and answers where it stood.
 fn take_out<R: IdRow>(rows: &mut Vec<R>, id: WriteId) -> Option<usize>
     requires { InOrder R.before R.key rows.old.items }
     ensures without { rows.new.items ≡ rows_without R.id (id ∷ []) rows.old.items }
