@@ -1,11 +1,14 @@
 ghost use Rattle.std.specs.Prelude.{◌≡◌, ◌↔◌, List, [], ◌∷◌, ◌++◌, length, None, Ok, OnOk, OnErr, IfOk, IfErr, IsTrue, bytes_eq, false};
 ghost use Rattle.std.specs.BTreeMap.{insert_entry};
+ghost use Rattle.std.specs.List.Sorted.{IsStrictlySortedBy};
+ghost use Rattle.std.specs.Map.{keys_of, remove_entry};
 ghost use Rattle.std.specs.Option.{option_copied};
 ghost use Rattle.mr_model.specs.Texts.{Text};
-ghost use Rattle.mr_model.specs.Writes.{Id, Write, id_of};
+ghost use Rattle.mr_model.specs.Writes.{Id, Write, id_of, same_id};
 ghost use Rattle.mr_model.specs.Replay.{is_free};
 ghost use Rattle.mr_base.specs.Answers.{OrOutOfMemory};
 ghost use Rattle.mr_base.specs.Ids.{id_cmp};
+ghost use Rattle.mr_replay.specs.Hidden.{shown};
 ghost use Rattle.mr_replay.specs.Places.{place_seen};
 ghost use Rattle.mr_replay.specs.Rows.{row_at, bookings_of, IsFree, place_by_rows, marked_by, executed, undo_row_of, undone, executed_all, undo_rows_of, undone_all};
 ghost use Rattle.mr_replay.specs.Holds.{HaveDistinctIds, IsNew, AreNew, if_of, HoldsEach, Holds, with_list, undo_row_after, CanReplay};
@@ -14,7 +17,7 @@ use crate::choice::{is_free, place_among};
 use crate::giving_back::remove_row;
 use crate::index::{Index, forget, key_if_taken, note};
 use crate::marks::{mark_row, unmark_row};
-use crate::rows::Rows;
+use crate::rows::{Hidden, Rows};
 use crate::{Place, Row, Trial, UndoRow};
 use mr_base::{Refusal, RoomName, Slot, Write, WriteId};
 use std::alloc::{AllocError, Global};
@@ -111,6 +114,20 @@ impl Board {
         }
     }
 
+    /// Takes the row of this id away, if there is one.
+    pub(crate) fn remove(&mut self, id: WriteId)
+        ensures { self.new ≡ remove_entry (same_id id) self.old }
+    {
+        remove_row(&mut self.rows, &mut self.index, id);
+    }
+
+    /// For the prover alone: its rows stand in the order of their ids.
+    pub(crate) fn is_in_order(&self)
+        ensures { IsStrictlySortedBy id_cmp (keys_of self.now) }
+    {
+        let _ = &self.rows;
+    }
+
     /// Whether no booking of the room overlaps the slot with this length in minutes.
     pub fn check(&self, room: &RoomName, slot: Slot, length: u32) -> bool
         ensures test { result ≡ is_free (bookings_of room.now self.now) length slot }
@@ -118,6 +135,19 @@ impl Board {
     {
         let hidden = BTreeSet::new(self.alloc);
         is_free(&self.rows, &self.index, &hidden, room, slot, length)
+    }
+
+    /// Whether no booking of the room overlaps the slot, those of the hidden ids aside.
+    pub(crate) fn check_but(
+        &self,
+        hidden: &Hidden,
+        room: &RoomName,
+        slot: Slot,
+        length: u32,
+    ) -> bool
+        ensures { result ≡ is_free (bookings_of room.now (shown hidden.now self.now)) length slot }
+    {
+        is_free(&self.rows, &self.index, hidden, room, slot, length)
     }
 
     /// Where the write would go. A booking: to its first choice that is free in its room, else into the error log. A cancel is done
