@@ -10,6 +10,7 @@ pub mod Checking
 pub mod OneRoom
 pub mod Hiding
 pub mod Trials
+pub mod SeenRows
 pub mod Holding
 pub mod Redoing
 pub mod Replaying

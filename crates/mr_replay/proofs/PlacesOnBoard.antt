@@ -35,11 +35,11 @@ later_absent : (i : Id) (b : Rows) → AllByRecursion (λ k. id_cmp i k ≡ Less
 later_absent i [] h = refl
 later_absent i (e ∷ es) h = ap (λ o. cond (is_eq o) (Some e.1) (lookup (at i) es)) h.0 ∙ later_absent i es h.1
 
-first_absent : (e : Id × Row) (es : Rows) → IsInOrder (e ∷ es) → row_at es e.0 ≡ None
+pub first_absent : (e : Id × Row) (es : Rows) → IsInOrder (e ∷ es) → row_at es e.0 ≡ None
 unfolding IsStrictlySortedBy
 first_absent e es h = subst (λ (f : Id → Id → Bool). lookup (f e.0) es ≡ None) at_is (later_absent e.0 es h.0)
 
-rest_in_order : (e : Id × Row) (es : Rows) → IsInOrder (e ∷ es) → IsInOrder es
+pub rest_in_order : (e : Id × Row) (es : Rows) → IsInOrder (e ∷ es) → IsInOrder es
 unfolding IsStrictlySortedBy
 rest_in_order e es h = h.1
 

@@ -7,3 +7,4 @@ pub mod Trials
 pub mod Holds
 pub mod Bookings
 pub mod BoardLaws
+pub mod Seen

@@ -9,6 +9,7 @@ mod index;
 mod marks;
 mod replay;
 mod rows;
+mod seen;
 mod trial;
 
 ghost use Rattle.mr_replay.specs.BoardLaws.{OneBoard, ExecutingHolds, UndoingHolds, AnotherOrderHolds, UndoIsExact, UndoInReverseIsExact, CancelsMark, OthersAreNew, UndoRowsAreOfTheList, UndoRowsAreOfTheRoom, PlacesAreOfTheBoard, RoomsExecuteApart};
@@ -16,6 +17,7 @@ ghost use Rattle.mr_replay.specs.Bookings.{BookingsReplay};
 
 pub use board::Board;
 pub use rows::{Place, Row, Standing, Trace, UndoRow};
+pub use seen::SeenBoard;
 pub use trial::Trial;
 
 /// A list of writes has one board. Executing writes leads from the board of a list to that of a longer one, undoing them

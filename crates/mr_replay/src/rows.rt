@@ -1,6 +1,7 @@
 ghost use Rattle.std.specs.Prelude.{◌≡◌, IfOk, IfErr, None};
 ghost use Rattle.mr_model.specs.Replay.{slot_at as slot_of};
 ghost use Rattle.mr_base.specs.Actions.{action_of};
+ghost use Rattle.mr_replay.specs.Bookings.{is_taken};
 ghost use Rattle.mr_replay.specs.Places.{place_seen};
 ghost use Rattle.mr_replay.specs.Rows.{is_standing, is_booking_of, is_trace_in_the_way, is_in_the_way, choice_at, trace_with, row_of, with_mark, without_mark, change, target_of, target_if_done, undo_row_at};
 
@@ -214,6 +215,16 @@ impl Trace {
                 })
             }
             Trace::OfCancel { target } => Ok(Trace::OfCancel { target: *target }),
+        }
+    }
+
+    /// Whether this is a booking that took its slot, be it taken back or not.
+    pub fn is_taken(&self) -> bool
+        ensures { result ≡ is_taken self.now }
+    {
+        match self {
+            Trace::OfBooking { standing, .. } => *standing != Standing::InErrorLog,
+            Trace::OfCancel { .. } => false,
         }
     }
 
