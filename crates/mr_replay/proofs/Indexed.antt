@@ -34,7 +34,7 @@ use Rattle.mr_replay.specs.Index.{padded, day_cmp, key_cmp, key_of, key_traced, 
 use Rattle.mr_replay.proofs.IdKeys.{same_id_equivalence}
 use Rattle.mr_replay.proofs.Entries.{distinct_keys, in_order-put, in_order-removed, row_at-put, row_at-removed}
 use Rattle.mr_replay.proofs.Marked.{change_if, row_at-changed, in_order-changed}
-use Rattle.mr_replay.proofs.Keys.{same_key, key_id, apart_keys, key-marked, key-unmarked}
+use Rattle.mr_replay.proofs.Keys.{same_key, apart_keys, key-marked, key-unmarked}
 use Rattle.mr_replay.proofs.Lists.{one_name}
 
 -- ---- a booking's key is between the ends of its day
@@ -198,19 +198,6 @@ Forgets-others old new key stays i row is h = λ j r apart noted k own. h k (λ 
 -- and the key of the row that it keeps
 pub Forgets-stays : (old new : BTreeSet IndexKey) (key stays : Option IndexKey) (i : Id) (row : Row) → stays ≡ key_if_taken i row → Forgets old new key stays → IsNoted old i row → IsNoted new i row
 Forgets-stays old new key stays i row is h noted = λ k own. h k (λ _. is ∙ own) (noted k own)
-
--- ---- a key that no row stands under
-
--- taking it out leaves all rows noted, if what stays is where the row of its id stands
-pub IsIndexed-swept : (rows : Rows) (old new : BTreeSet IndexKey) (key : IndexKey) (stays : Option IndexKey) → ((row : Row) → row_at rows key.id ≡ Some row → stays ≡ key_if_taken key.id row) → ((k : IndexKey) → (key ≡ k → stays ≡ Some k) → IsTrue (has old k) → IsTrue (has new k)) → IsIndexed rows old → IsIndexed rows new
-IsIndexed-swept rows old new key stays is forgets h = record { ordered = h.ordered; bookings = λ q. at q (row_at rows q) refl (h.bookings q) }
-  where
-    at : (q : Id) (o : Option Row) → row_at rows q ≡ o → IfSome o (IsNoted old q) → IfSome o (IsNoted new q)
-    at q None there noted = tt
-    at q (Some row) there noted = λ k own.
-        forgets k (λ e.
-        let id : key.id ≡ q = ap (λ (x : IndexKey). x.id) e ∙ key_id q row.room row.trace k own in
-        is row (ap (row_at rows) id ∙ there) ∙ ap (λ i. key_if_taken i row) id ∙ own) (noted k own)
 
 -- ---- a row changed in place
 

@@ -9,8 +9,8 @@ pub mod PlacesOnBoard
 pub mod Checking
 pub mod OneRoom
 pub mod Hiding
-pub mod Trials
 pub mod SeenRows
+pub mod Overlaid
 pub mod Holding
 pub mod Redoing
 pub mod Replaying

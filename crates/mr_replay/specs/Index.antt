@@ -81,10 +81,6 @@ pub record IsIndexed (rows : Rows) (index : BTreeSet IndexKey) : Type 0 where
   pub ordered : IsStrictlySortedBy id_cmp (keys_of rows)
   pub bookings : (i : Id) → IfSome (row_at rows i) (IsNoted index i)
 
--- an index of the old rows is one of the new ones
-abbrev pub StayIndexed : Rows → Rows → Type 0
-StayIndexed old new = (index : BTreeSet IndexKey) → IsIndexed old index → IsIndexed new index
-
 -- ---- whether a slot is taken
 
 abbrev pub is_row : (Row → Bool) → Option Row → Bool

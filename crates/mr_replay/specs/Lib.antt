@@ -3,7 +3,7 @@ pub mod Places
 pub mod Rows
 pub mod Index
 pub mod Hidden
-pub mod Trials
+pub mod Overlay
 pub mod Holds
 pub mod Bookings
 pub mod BoardLaws

@@ -1,11 +1,10 @@
 -- A board of which some rows may not be seen: all of it is seen, or the bookings of some rooms, those that stand and those that a cancel
 -- took back.
-use Rattle.std.specs.Prelude.{Bool, ◌&&◌, List, filter}
+use Rattle.std.specs.Prelude.{Bool, ◌&&◌, filter}
 use Rattle.std.specs.BTreeSet.{BTreeSet, contains}
 use Rattle.std.specs.Cmp.Lexicographic.{slice_cmp}
 use Rattle.std.specs.Ordering.{nat_cmp}
 use Rattle.mr_model.specs.Texts.{Text}
-use Rattle.mr_model.specs.Writes.{Id}
 use Rattle.mr_replay.specs.declared.rows.Row.{Row}
 use Rattle.mr_replay.specs.declared.seen.Seen.{Seen}
 use Rattle.mr_replay.specs.declared.seen.Seen.TheVariants.{All, InRooms}

@@ -13,17 +13,16 @@ ghost use Rattle.mr_replay.specs.Places.{place_seen};
 ghost use Rattle.mr_replay.specs.Rows.{row_at, bookings_of, IsFree, place_by_rows, marked_by, executed, undo_row_of, undone, executed_all, undo_rows_of, undone_all};
 ghost use Rattle.mr_replay.specs.Holds.{HaveDistinctIds, IsNew, AreNew, if_of, HoldsEach, Holds, with_list, undo_row_after, CanReplay};
 
-use crate::choice::{is_free, place_among};
-use crate::giving_back::remove_row;
+use crate::choice::{Bookings, place_among};
 use crate::index::{Index, forget, key_if_taken, note};
 use crate::marks::{mark_row, unmark_row};
 use crate::rows::{Hidden, Rows};
-use crate::{Place, Row, Trial, UndoRow};
+use crate::taken::is_free;
+use crate::{Place, Row, UndoRow};
 use mr_base::{Refusal, RoomName, Slot, Write, WriteId};
 use std::alloc::{AllocError, Global};
 use std::collections::{BTreeMap, BTreeSet};
 use std::marker::Model;
-use std::mem;
 
 /// The bookings and the error log of all rooms: one row for each write that was executed and not undone, but for the cancels that
 /// took a booking back, whose ids stand in the rows of these.
@@ -118,7 +117,11 @@ impl Board {
     pub(crate) fn remove(&mut self, id: WriteId)
         ensures { self.new ≡ remove_entry (same_id id) self.old }
     {
-        remove_row(&mut self.rows, &mut self.index, id);
+        if let Some(removed) = self.rows.remove(&id) {
+            let gone = key_if_taken(id, &removed);
+            drop(removed);
+            forget(&mut self.index, gone, None);
+        }
     }
 
     /// For the prover alone: its rows stand in the order of their ids.
@@ -133,8 +136,7 @@ impl Board {
         ensures test { result ≡ is_free (bookings_of room.now self.now) length slot }
         ensures meaning { IsTrue result ↔ IsFree room.now slot length self.now }
     {
-        let hidden = BTreeSet::new(self.alloc);
-        is_free(&self.rows, &self.index, &hidden, room, slot, length)
+        self.check_but(&BTreeSet::new(self.alloc), room, slot, length)
     }
 
     /// Whether no booking of the room overlaps the slot, those of the hidden ids aside.
@@ -155,8 +157,7 @@ impl Board {
     pub fn merge(&self, write: &Write) -> Place
         ensures { place_seen result ≡ place_by_rows self.now write.now }
     {
-        let hidden = BTreeSet::new(self.alloc);
-        place_among(&self.rows, &self.index, &hidden, write)
+        place_among(self, write)
     }
 
     /// Executes the write at the place that `merge` finds: puts its row, or marks its target's row.
@@ -193,7 +194,7 @@ impl Board {
     {
         match row.taken_back() {
             Some(target) => unmark_row(&mut self.rows, target, row.id),
-            None => remove_row(&mut self.rows, &mut self.index, row.id),
+            None => self.remove(row.id),
         }
     }
 
@@ -232,7 +233,7 @@ impl Board {
 
     /// Undoes the room's last executions, which `undone` names in the order in which they were done, and executes other
     /// writes of the room in their place. Other rooms keep what they have. The answer has the undo rows of these writes.
-    /// The cost goes by these executions and writes, and not by how many rows the board has.
+    /// It works on a copy of the board, so the cost goes by how many rows this has.
     pub fn replay_room(
         &mut self,
         room: &RoomName,
@@ -253,18 +254,11 @@ impl Board {
     {
         // For the prover alone: clauses speak of the room, and the code has no use for it.
         let _ = room;
-        let mut trial = Trial::new(self.taken());
-        let rows = trial.replay(undone, again);
-        *self = trial.keep();
-        rows
-    }
-
-    /// Its rows, all of them moved; it is empty then.
-    fn taken(&mut self) -> Board
-        ensures { result ≡ self.old }
-    {
-        let alloc = self.alloc;
-        mem::replace(self, Board::new(alloc))
+        let mut board = self.copy()?;
+        board.undo_all(undone);
+        let rows = board.redo_from(again)?;
+        *self = board;
+        Ok(rows)
     }
 
     /// Executes the write and notes its undo row.
@@ -281,5 +275,21 @@ impl Board {
             return Err(Refusal::OutOfMemory);
         }
         Ok(())
+    }
+}
+
+impl Bookings for Board {
+    ghost rows = { λ b. b };
+
+    fn row(&self, id: WriteId) -> Option<&Row> {
+        self.row(id)
+    }
+
+    fn is_free(&self, room: &RoomName, slot: Slot, length: u32) -> bool {
+        self.check(room, slot, length)
+    }
+
+    fn is_in_order(&self) {
+        self.is_in_order();
     }
 }

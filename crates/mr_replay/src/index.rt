@@ -46,7 +46,7 @@ pub(crate) fn forget(index: &mut Index, key: Option<IndexKey>, stays: Option<Ind
 }
 
 /// Takes this key out, if it isn't the one that stays.
-pub(crate) fn take_out(index: &mut Index, key: IndexKey, stays: Option<IndexKey>)
+fn take_out(index: &mut Index, key: IndexKey, stays: Option<IndexKey>)
     ensures { (k : Key) → (key ≡ k → stays ≡ Some k) → IsTrue (has index.old k) → IsTrue (has index.new k) }
 {
     if stays != Some(key) {

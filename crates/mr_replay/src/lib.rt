@@ -4,21 +4,20 @@
 
 mod board;
 mod choice;
-mod giving_back;
 mod index;
 mod marks;
-mod replay;
+mod overlay;
 mod rows;
 mod seen;
-mod trial;
+mod taken;
 
 ghost use Rattle.mr_replay.specs.BoardLaws.{OneBoard, ExecutingHolds, UndoingHolds, AnotherOrderHolds, UndoIsExact, UndoInReverseIsExact, CancelsMark, OthersAreNew, UndoRowsAreOfTheList, UndoRowsAreOfTheRoom, PlacesAreOfTheBoard, RoomsExecuteApart};
 ghost use Rattle.mr_replay.specs.Bookings.{BookingsReplay};
 
 pub use board::Board;
+pub use overlay::Overlay;
 pub use rows::{Place, Row, Standing, Trace, UndoRow};
 pub use seen::SeenBoard;
-pub use trial::Trial;
 
 /// A list of writes has one board. Executing writes leads from the board of a list to that of a longer one, undoing them
 /// leads back, and undoing an execution gives just the board from before it. A cancel marks its target's row, and undoing it takes

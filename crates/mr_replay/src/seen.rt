@@ -12,6 +12,7 @@ ghost use Rattle.mr_replay.specs.Seen.{is_in_rooms, seen_in};
 use crate::rows::Hidden;
 use crate::{Board, Place, Row};
 use mr_base::{RoomName, Slot, Write, WriteId};
+use std::alloc::Global;
 use std::collections::{BTreeMap, BTreeSet};
 use std::marker::Model;
 use std::rc::Rc;
@@ -97,6 +98,14 @@ impl SeenBoard {
             Seen::InRooms(board, rooms) => {
                 check_in_rooms(board.as_ref(), rooms, hidden, room, slot, length)
             }
+        }
+    }
+
+    /// The allocator of the board.
+    pub(crate) fn alloc(&self) -> Global {
+        match &self.seen {
+            Seen::All(board) => board.alloc,
+            Seen::InRooms(board, _) => board.as_ref().alloc,
         }
     }
 

@@ -7,7 +7,7 @@ use Rattle.mr_replay.proofs.board.Board.check.Goals as goal
 
 pub returns-clause-test : goal.returns-clause-test
 returns-clause-test c =
-    c.is_free.ensures ∙ ap (λ b. is_free (bookings_of c.args.room.now b) c.args.length c.args.slot) (shown-empty c.new-hidden.result c.self.inside.rows.entries c.new-hidden.ensures.empty ∙ c.self.view_is)
+    c.check_but.ensures ∙ ap (λ b. is_free (bookings_of c.args.room.now b) c.args.length c.args.slot) (shown-empty c.new.result c.args.self.now c.new.ensures.empty)
 
 pub returns-clause-meaning : goal.returns-clause-meaning
 returns-clause-meaning c =

@@ -22,7 +22,7 @@ pub returns-in-None-clause-board : goal.returns-in-None-clause-board
 returns-in-None-clause-board c =
     let row = c.args.row in
     let none : target_if_done row.place row.target ≡ None = sym c.taken_back.ensures ∙ c.in-None.is in
-    c.remove_row.ensures.board ∙ (λ t. remove_entry (same_id (c.row.view_is t).id) (c.self.view_is t)) ∙ ap (λ o. undone_with row.id o c.args.self.now) (sym none)
+    c.remove.ensures ∙ (λ t. remove_entry (same_id (c.row.view_is t).id) c.args.self.now) ∙ ap (λ o. undone_with row.id o c.args.self.now) (sym none)
 
 pub returns-in-Some-clause-holds : goal.returns-in-Some-clause-holds
 returns-in-Some-clause-holds c = λ ws w distinct is holds.
