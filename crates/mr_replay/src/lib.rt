@@ -1,5 +1,5 @@
 //! The board: the bookings and the error log of all rooms, on which writes are executed and undone.
-//! It stands on `mr_base`; a part of a replica (`mr_part`) has a board of its own. README.md has lines of use, and what is proved.
+//! It stands on `mr_base`; a part of a replica (`mr_part`) reads a board, and replays in an overlay over it. README.md has lines of use, and what is proved.
 #![tactic(auto)]
 
 mod board;

@@ -5,9 +5,8 @@
 use crate::builders::{Ask, MONDAY, TUESDAY, add, booking, cancel, id, slot, stamp};
 use crate::same::same;
 use mr_base::{Refusal, RoomName, Write, WriteId};
-use mr_replay::{Board, Place, Standing, Trace, Trial, UndoRow};
+use mr_replay::{Board, Overlay, Place, SeenBoard, Standing, Trace, UndoRow};
 use std::alloc::Global;
-use std::mem;
 use std::process::Abort;
 
 /// The server and the number of a write.
@@ -33,7 +32,7 @@ enum Step {
     Execute(usize, usize, &'static [(Numbers, Place)]),
     /// They are executed in oak once what was executed last is undone.
     Replay(usize, usize, &'static [(Numbers, Place)]),
-    /// The same in a trial, which is given up then.
+    /// The same in an overlay, which is dropped then.
     Try(usize, usize, &'static [(Numbers, Place)]),
     /// What was executed last is undone, the last one first, but for so many of the first.
     Undo(usize),
@@ -144,9 +143,9 @@ fn replay(
     Ok(are(tried.rows.as_slice(), places))
 }
 
-/// What shows of this write's row in the trial is in the error log.
-fn is_logged_in(trial: &Trial, (server, n): Numbers) -> Result<bool, Refusal> {
-    let Some(row) = trial.row(id(server, n)?) else {
+/// What shows of this write's row in the overlay is in the error log.
+fn is_logged_in(overlay: &Overlay, (server, n): Numbers) -> Result<bool, Refusal> {
+    let Some(row) = overlay.row(id(server, n)?) else {
         return Ok(false);
     };
     match &row.trace {
@@ -155,32 +154,25 @@ fn is_logged_in(trial: &Trial, (server, n): Numbers) -> Result<bool, Refusal> {
     }
 }
 
-/// Whether the replay gives these places, those of the error log as the trial shows them.
+/// Whether the replay gives these places, those of the error log as the overlay shows them.
 fn replays(
-    trial: &mut Trial,
+    overlay: &mut Overlay,
     undone: &[UndoRow],
     writes: &[Write],
     places: &[(Numbers, Place)],
 ) -> Result<bool, Refusal> {
-    let rows = trial.replay(undone, writes)?;
+    let rows = overlay.replay(undone, writes)?;
     for (numbers, place) in places {
-        if is_logged_in(trial, *numbers)? != (*place == Place::Logged) {
+        if is_logged_in(overlay, *numbers)? != (*place == Place::Logged) {
             return Ok(false);
         }
     }
     Ok(are(rows.as_slice(), places))
 }
 
-fn try_out(
-    tried: &mut Tried,
-    writes: &[Write],
-    places: &[(Numbers, Place)],
-) -> Result<bool, Refusal> {
-    let board = mem::replace(&mut tried.board, Board::new(tried.alloc));
-    let mut trial = Trial::new(board);
-    let is_met = replays(&mut trial, tried.rows.as_slice(), writes, places);
-    tried.board = trial.give_up();
-    is_met
+fn try_out(tried: &Tried, writes: &[Write], places: &[(Numbers, Place)]) -> Result<bool, Refusal> {
+    let mut overlay = Overlay::over(SeenBoard::all(tried.board.copy()?));
+    replays(&mut overlay, tried.rows.as_slice(), writes, places)
 }
 
 /// Undoes the executions of these rows, the last one first.
