@@ -5,6 +5,7 @@ use Rattle.std.proofs.lemmas.List.Elements.{filter-append}
 use Rattle.std.specs.List.{AllByRecursion, filter}
 use Rattle.std.specs.BTreeMap.{insert_entry}
 use Rattle.mr_model.specs.Writes.{Id}
+use Rattle.mr_model.proofs.WordsReadBack.{all_append}
 use Rattle.mr_base.specs.Ids.{id_cmp}
 use Rattle.mr_replay.specs.declared.rows.Row.{Row}
 use Rattle.mr_replay.specs.Rows.{Rows}
@@ -40,3 +41,8 @@ pub of_all : {R : Type 0} (P : R → Type 0) (rows : List R) (k : ℕ) (row : R)
 of_all P [] k row a low at = absurd (omega (arith, low))
 of_all P (r ∷ rs) zero row a low at = subst P (sym at) a.0
 of_all P (r ∷ rs) (suc k) row a low at = of_all P rs k row a.1 (let l : suc k < suc (length rs) = low in omega (arith, l)) at
+
+-- what the rows so far keep, and one row more
+pub all_more : {R : Type 0} (P : R → Type 0) (rows : List R) (k : ℕ) (row : R) → AllByRecursion P (take k rows) → P row → k < length rows → row ≡ get_or rows k row → AllByRecursion P (take (k + 1) rows)
+all_more P rows k row so last low at =
+    subst (AllByRecursion P) (ap (λ r. take k rows ++ r ∷ []) at ∙ sym (take_more rows k row low)) (all_append P (take k rows) (row ∷ []) so (last, tt))

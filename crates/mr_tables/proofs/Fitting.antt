@@ -8,7 +8,7 @@ use Rattle.mr_model.specs.Dropped.{Has}
 use Rattle.mr_model.proofs.Members.{slice_has}
 
 -- what all elements pass, each passes
-pub passes : {A : Type 0} (p : A → Bool) (x : A) (xs : List A) → list_all p xs ≡ true → Has x xs → p x ≡ true
+passes : {A : Type 0} (p : A → Bool) (x : A) (xs : List A) → list_all p xs ≡ true → Has x xs → p x ≡ true
 passes p x [] h a = absurd a
 passes p x (y ∷ ys) h (inl e) = ap p e ∙ (and_parts (p y) (list_all p ys) h).0
 passes p x (y ∷ ys) h (inr a) = passes p x ys (and_parts (p y) (list_all p ys) h).1 a

@@ -1,5 +1,5 @@
 -- A board made of the rows of booking, errorlog, cancelled and cancels.
-use Rattle.std.specs.Prelude.{ℕ, ◌-◌, ◌≤◌, Bool, not, List, [], ◌∷◌, map, filter, IsTrue}
+use Rattle.std.specs.Prelude.{ℕ, ◌-◌, ◌<◌, ◌≤◌, Bool, not, List, [], ◌∷◌, map, filter, IsTrue}
 use Rattle.std.specs.List.{AllByRecursion}
 use Rattle.std.specs.BTreeMap.{insert_entry}
 use Rattle.mr_model.specs.Writes.{Id, is_count}
@@ -46,11 +46,11 @@ board_of t =
 
 -- ---- limits
 
--- a count and a minute within the limits
-abbrev pub IsRowWithin : ℕ → ℕ → Type 0
-IsRowWithin n start = IsTrue (is_count n) × (start ≤ 1439)
+-- a count within the limits, and minutes of a day that the start comes before the stop in, the day's end at the latest
+abbrev pub IsRowWithin : ℕ → ℕ → ℕ → Type 0
+IsRowWithin n start stop = IsTrue (is_count n) × (start < stop) × (stop ≤ 1440)
 
 pub record AreWithin (t : Tables) : Type 0 where
-  pub booking : AllByRecursion (λ r. IsRowWithin r.n r.start) t.booking
-  pub errorlog : AllByRecursion (λ r. IsRowWithin r.n r.start) t.errorlog
-  pub cancelled : AllByRecursion (λ r. IsRowWithin r.n r.start) t.cancelled
+  pub booking : AllByRecursion (λ r. IsRowWithin r.n r.start r.stop) t.booking
+  pub errorlog : AllByRecursion (λ r. IsRowWithin r.n r.start r.stop) t.errorlog
+  pub cancelled : AllByRecursion (λ r. IsRowWithin r.n r.start r.stop) t.cancelled

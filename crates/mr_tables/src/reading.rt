@@ -1,13 +1,13 @@
-ghost use Rattle.std.specs.Prelude.{◌≡◌, ◌<◌, ◌∷◌, List, length, flat_map, IfSome, IfOk, IfErr, Ok, Some, ℕ, IsTrue};
+ghost use Rattle.std.specs.Prelude.{◌≡◌, ◌≢◌, ◌<◌, ◌∷◌, List, length, IfSome, IfOk, IfErr, Ok, Some, ℕ, IsTrue};
 ghost use Rattle.std.specs.Str.{IsUtf8};
-ghost use Rattle.mr_model.specs.Texts.{first_word, after_word, words};
-ghost use Rattle.mr_model.specs.Slots.{Slot as SlotOfDay, slot_words};
+ghost use Rattle.mr_model.specs.Texts.{first_word};
+ghost use Rattle.mr_model.specs.Slots.{Slot as SlotOfDay};
 ghost use Rattle.mr_model.specs.Writes.{Meeting as MeetingInRoom, Books, Cancels, Write as WriteOfRoom, is_meeting, is_write, is_stamp};
 ghost use Rattle.mr_model.specs.Replay.{Place as PlaceOfWrite};
 ghost use Rattle.mr_model.specs.Tables.{log_row_with};
 ghost use Rattle.mr_base.specs.Answers.{OrOutOfMemory};
 ghost use Rattle.mr_tables.specs.Cells.{meeting_cells};
-ghost use Rattle.mr_tables.specs.Choices.{IsTextOf, GivesSlot};
+ghost use Rattle.mr_tables.specs.Choices.{IsTextOf, IsRestOf, GivesSlot, lent, after_space};
 
 use crate::{ActionCells, LogRow, MeetingCells};
 use mr_base::{
@@ -18,6 +18,8 @@ use std::alloc::Global;
 /// The write of a row of `log`. Refused if the row is that of no write.
 pub fn write_of(alloc: Global, row: &LogRow) -> Result<Write, Refusal>
     ensures read { (w : WriteOfRoom) (place : PlaceOfWrite) (seq : ℕ) → IsTrue (is_write w) → row.now ≡ log_row_with w place seq → OrOutOfMemory result (Ok w) }
+    ensures row { IfOk result (λ w. row.now ≡ log_row_with w row.now.place row.now.seq) }
+    ensures store { IfErr result (λ e. e ≢ Refusal.OutOfMemory → e ≡ Refusal.Store) }
 {
     let Some(stamp) = stamp_of(row.server, row.n, row.time) else {
         return Err(Refusal::Store);
@@ -49,6 +51,8 @@ fn booking_of(
 ) -> Result<Write, Refusal>
     ensures read { (m : MeetingInRoom) → IsTrue (is_meeting m) → cells.now ≡ meeting_cells m
         → OrOutOfMemory result (Ok (record { stamp = stamp; room = room.now; action = Books m })) }
+    ensures told { IfOk result (λ w. (m : MeetingInRoom) × (w ≡ record { stamp = stamp; room = room.now; action = Books m }) × (cells.now ≡ meeting_cells m)) }
+    ensures store { IfErr result (λ e. e ≢ Refusal.OutOfMemory → e ≡ Refusal.Store) }
 {
     match choices_of(alloc, cells.choices.as_str()) {
         Ok(choices) => booking_with(alloc, stamp, room, cells, choices.0, choices.1),
@@ -64,7 +68,9 @@ fn booking_with(
     wish: Slot,
     alternatives: Alternatives,
 ) -> Result<Write, Refusal>
-    ensures { IsTrue (is_meeting (record { title = cells.now.title; length = cells.now.length; wish = wish; alternatives = alternatives }))
+    ensures told { IfOk result (λ w. w ≡ record { stamp = stamp; room = room.now; action = Books (record { title = cells.now.title; length = cells.now.length; wish = wish; alternatives = alternatives }) }) }
+    ensures store { IfErr result (λ e. e ≢ Refusal.OutOfMemory → e ≡ Refusal.Store) }
+    ensures made { IsTrue (is_meeting (record { title = cells.now.title; length = cells.now.length; wish = wish; alternatives = alternatives }))
         → OrOutOfMemory result (Ok (record { stamp = stamp; room = room.now; action = Books (record { title = cells.now.title; length = cells.now.length; wish = wish; alternatives = alternatives }) })) }
 {
     let room = room.copy(alloc)?;
@@ -73,7 +79,8 @@ fn booking_with(
 }
 
 fn stamp_of(server: ServerId, n: u32, time: u64) -> Option<Stamp>
-    ensures { IsTrue (is_stamp (record { server = server; n = n; time = time })) → result ≡ Some (record { server = server; n = n; time = time }) }
+    ensures told { IfSome result (λ stamp. stamp ≡ record { server = server; n = n; time = time }) }
+    ensures made { IsTrue (is_stamp (record { server = server; n = n; time = time })) → result ≡ Some (record { server = server; n = n; time = time }) }
 {
     let id = WriteId::new(server, n)?;
     Stamp::new(id, time)
@@ -87,7 +94,9 @@ fn write_with(
     wish: Slot,
     alternatives: Alternatives,
 ) -> Result<Write, Refusal>
-    ensures { IsTrue (is_meeting (record { title = title; length = length; wish = wish; alternatives = alternatives }))
+    ensures told { IfOk result (λ w. w ≡ record { stamp = stamp; room = room; action = Books (record { title = title; length = length; wish = wish; alternatives = alternatives }) }) }
+    ensures store { IfErr result (λ e. e ≡ Refusal.Store) }
+    ensures made { IsTrue (is_meeting (record { title = title; length = length; wish = wish; alternatives = alternatives }))
         → result ≡ Ok (record { stamp = stamp; room = room; action = Books (record { title = title; length = length; wish = wish; alternatives = alternatives }) }) }
 {
     match Write::new(stamp, room, title, length, wish, alternatives) {
@@ -96,9 +105,11 @@ fn write_with(
     }
 }
 
-/// The choices with this text: the wish, and the others behind it. Refused if it isn't one of slots.
+/// The choices with this text: the wish, and the others behind it. A text that is none of slots is refused.
 pub(crate) fn choices_of(alloc: Global, text: &str) -> Result<(Slot, Alternatives), Refusal>
     ensures read { (s : SlotOfDay) (ss : List SlotOfDay) → IsTextOf text.now (s ∷ ss) → OrOutOfMemory result (Ok (s, ss)) }
+    ensures told { IfOk result (λ choices. IsTextOf text.now (choices.0 ∷ choices.1)) }
+    ensures store { IfErr result (λ e. e ≢ Refusal.OutOfMemory → e ≡ Refusal.Store) }
 {
     let Some((wish, rest)) = next_slot(text) else {
         return Err(Refusal::Store);
@@ -107,14 +118,16 @@ pub(crate) fn choices_of(alloc: Global, text: &str) -> Result<(Slot, Alternative
     Ok((wish, Alternatives::from_vec(others)))
 }
 
-/// The slots with this text.
-fn slots_of(alloc: Global, text: &str) -> Result<Vec<Slot>, Refusal>
-    ensures read { (ss : List SlotOfDay) → IsTextOf text.now ss → IfOk result (λ slots. slots.items ≡ ss) × IfErr result (λ e. e ≡ Refusal.OutOfMemory) }
+/// The slots of what is left of a text behind a slot.
+fn slots_of(alloc: Global, text: Option<&str>) -> Result<Vec<Slot>, Refusal>
+    ensures read { (ss : List SlotOfDay) → IsRestOf (lent text.entry) ss → IfOk result (λ slots. slots.items ≡ ss) × IfErr result (λ e. e ≡ Refusal.OutOfMemory) }
+    ensures told { IfOk result (λ slots. IsRestOf (lent text.entry) slots.items) }
+    ensures store { IfErr result (λ e. e ≢ Refusal.OutOfMemory → e ≡ Refusal.Store) }
 {
     let mut slots = Vec::new(alloc);
     let mut rest = text;
-    while !rest.is_empty() {
-        match next_slot(rest) {
+    'rest: while let Some(text) = rest {
+        match next_slot(text) {
             Some(taken) => {
                 slots.push(taken.0)?;
                 rest = taken.1;
@@ -125,14 +138,16 @@ fn slots_of(alloc: Global, text: &str) -> Result<Vec<Slot>, Refusal>
     Ok(slots)
 }
 
-/// The slot at the front of a text, and what stands behind it and a space.
-fn next_slot(text: &str) -> Option<(Slot, &str)>
-    ensures read { (s : SlotOfDay) (ss : List SlotOfDay) → IsTextOf text.now (s ∷ ss) → GivesSlot result s (words (flat_map slot_words ss)) }
-    ensures shorter { IfSome result (λ x. length x.1.now < length text.now) }
-    ensures utf8 { IfSome result (λ x. IsUtf8 x.1.now) }
+/// The slot at the front of a text, and what stands behind it and a space, if there is a space.
+fn next_slot(text: &str) -> Option<(Slot, Option<&str>)>
+    ensures read { (s : SlotOfDay) (ss : List SlotOfDay) → IsTextOf text.now (s ∷ ss) → GivesSlot result s ss }
+    ensures told { IfSome result (λ x. (ss : List SlotOfDay) → IsRestOf (lent x.1) ss → IsTextOf text.now (x.0 ∷ ss)) }
+    ensures shorter { IfSome result (λ x. IfSome x.1 (λ rest. length rest.now < length text.now)) }
+    ensures utf8 { IfSome result (λ x. IfSome x.1 (λ rest. IsUtf8 rest.now)) }
 {
-    let (day, rest) = next_word(text);
-    let (time, rest) = next_word(rest);
+    let (day, behind) = next_word(text);
+    let behind = behind?;
+    let (time, rest) = next_word(behind);
     let Ok(day) = Day::read(day) else {
         return None;
     };
@@ -142,14 +157,14 @@ fn next_slot(text: &str) -> Option<(Slot, &str)>
     Some((Slot { day, start }, rest))
 }
 
-/// The word up to the first space, and what stands behind that; all of a text that has none, and nothing behind it.
-fn next_word(text: &str) -> (&str, &str)
+/// The word up to the first space, and what stands behind that; all of a text that has none.
+fn next_word(text: &str) -> (&str, Option<&str>)
     ensures word { result.0.now ≡ first_word text.now }
-    ensures rest { result.1.now ≡ after_word text.now }
-    ensures utf8 { IsUtf8 result.0.now × IsUtf8 result.1.now }
+    ensures rest { lent result.1 ≡ after_space text.now }
+    ensures utf8 { IsUtf8 result.0.now × IfSome result.1 (λ rest. IsUtf8 rest.now) }
 {
     match text.split_once(' ') {
-        Some((word, rest)) => (word, rest),
-        None => (text, ""),
+        Some((word, rest)) => (word, Some(rest)),
+        None => (text, None),
     }
 }

@@ -3,6 +3,8 @@ use Rattle.std.specs.List.{AllByRecursion}
 use Rattle.mr_tables.specs.Boards.{error_entry, put_entries, IsRowWithin}
 use Rattle.mr_tables.proofs.boards.put_errors.Given as goal
 
--- the rows so far are put
+-- the rows so far are put, and are within the limits
 abbrev pub invariant-loop-row : goal.invariant-loop-row
-invariant-loop-row l = AllByRecursion (λ r. IsRowWithin r.n r.start) l.rows → l.board ≡ put_entries (map error_entry (take l.row-index l.rows)) l.fn.board
+invariant-loop-row l =
+    (l.board ≡ put_entries (map error_entry (take l.row-index l.rows)) l.fn.board)
+    × AllByRecursion (λ r. IsRowWithin r.n r.start r.stop) (take l.row-index l.rows)

@@ -1,15 +1,16 @@
-use Rattle.std.proofs.Common.{List, length}
-use Rattle.std.specs.Str.{IsUtf8}
+use Rattle.std.proofs.Common.{◌++◌, List}
 use Rattle.mr_model.specs.Slots.{Slot}
-use Rattle.mr_tables.specs.Choices.{IsTextOf, IsUnderWay}
+use Rattle.mr_tables.specs.Choices.{IsRestOf, IsUnderWay, lent}
+use Rattle.mr_tables.proofs.FrontWords.{left_length, IsUtf8Rest}
 use Rattle.mr_tables.proofs.reading.slots_of.Given as goal
 
 -- of a text of slots the first ones are read, and the text of the others is left
-abbrev pub invariant-loop-rest : goal.invariant-loop-rest
-invariant-loop-rest l = record {
-  under_way : (ss : List Slot) → IsTextOf l.text ss → IsUnderWay ss l.slots.items l.rest;
-  utf8 : IsUtf8 l.rest;
+abbrev pub invariant-rest : goal.invariant-rest
+invariant-rest l = record {
+  under_way : (ss : List Slot) → IsRestOf (lent l.fn.text) ss → IsUnderWay ss l.slots.items (lent l.rest);
+  told : (left : List Slot) → IsRestOf (lent l.rest) left → IsRestOf (lent l.fn.text) (l.slots.items ++ left);
+  utf8 : IsUtf8Rest l.rest;
 }
 
-abbrev pub decreases-loop-rest : goal.decreases-loop-rest
-decreases-loop-rest l = length l.rest
+abbrev pub decreases-rest : goal.decreases-rest
+decreases-rest l = left_length l.rest
