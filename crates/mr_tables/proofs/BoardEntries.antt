@@ -22,7 +22,7 @@ put_more f rows k row b low at =
     ∙ ap (λ rs. put_entries (map f rs) b) (ap (λ r. take k rows ++ r ∷ []) at ∙ sym (take_more rows k row low))
 
 -- one row more of which those are put that pass a test
-filter_more : {R : Type 0} (p : R → Bool) (rows : List R) (k : ℕ) (row : R) → k < length rows → row ≡ get_or rows k row → filter p (take k rows) ++ cond (p row) (row ∷ []) [] ≡ filter p (take (k + 1) rows)
+pub filter_more : {R : Type 0} (p : R → Bool) (rows : List R) (k : ℕ) (row : R) → k < length rows → row ≡ get_or rows k row → filter p (take k rows) ++ cond (p row) (row ∷ []) [] ≡ filter p (take (k + 1) rows)
 filter_more p rows k row low at =
     sym (filter-append p (take k rows) (row ∷ [])) ∙ ap (filter p) (ap (λ r. take k rows ++ r ∷ []) at ∙ sym (take_more rows k row low))
 

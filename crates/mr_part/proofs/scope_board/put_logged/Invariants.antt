@@ -4,8 +4,8 @@ use Rattle.mr_tables.specs.Boards.{error_entry, put_entries, IsRowWithin}
 use Rattle.mr_part.specs.RowTests.{has_error}
 use Rattle.mr_part.proofs.scope_board.put_logged.Given as goal
 
--- those of the rows so far that pass are put
+-- those of the rows so far that pass are put, and are within the limits
 abbrev pub invariant-loop-row : goal.invariant-loop-row
 invariant-loop-row l =
-    AllByRecursion (λ r. IsRowWithin r.n r.start) (filter (has_error l.test) l.rows)
-    → l.board ≡ put_entries (map error_entry (filter (has_error l.test) (take l.row-index l.rows))) l.fn.board
+    (l.board ≡ put_entries (map error_entry (filter (has_error l.test) (take l.row-index l.rows))) l.fn.board)
+    × AllByRecursion (λ r. IsRowWithin r.n r.start r.stop) (filter (has_error l.test) (take l.row-index l.rows))
