@@ -3,12 +3,10 @@ ghost use Rattle.mr_store.specs.KeeperCalls.{failures_after, IsAtomic, IsQuiet};
 ghost use Rattle.mr_store.specs.Cached.{IsMemoryAfter, IsMemoryOf, NeverFails};
 
 use crate::memory::Remembered;
-use crate::queries::same_day;
-use crate::{Fault, Keeper};
-use mr_base::{Day, RoomName, WriteId};
+use crate::{Answer, Fault, Keeper, Question};
 use mr_part::{Part, Scope};
 use mr_replica::Desk;
-use mr_tables::{BookingRow, CancelRow, CancelledRow, Change, ErrorRow, PlaceRow, Tables};
+use mr_tables::{Change, Tables};
 use std::alloc::Global;
 use std::marker::Model;
 
@@ -158,73 +156,13 @@ impl<K: Keeper> Keeper for Cached<K> {
         answer
     }
 
-    fn rooms(&mut self) -> Result<Vec<RoomName>, Fault> {
+    fn query(&mut self, question: &Question<'_>) -> Result<Answer, Fault> {
         let Some(mut memory) = self.recall()? else {
-            return self.keeper.rooms();
+            return self.keeper.query(question);
         };
-        let answer = memory.rooms();
+        let answer = memory.query(question);
         if is_failure(&answer) {
-            return self.keeper.rooms();
-        }
-        self.memory = Some(memory);
-        answer
-    }
-
-    fn bookings(&mut self, room: &RoomName, day: Option<Day>) -> Result<Vec<BookingRow>, Fault> {
-        let Some(mut memory) = self.recall()? else {
-            return self.keeper.bookings(room, day);
-        };
-        let answer = memory.bookings(room, same_day(&day));
-        if is_failure(&answer) {
-            return self.keeper.bookings(room, day);
-        }
-        self.memory = Some(memory);
-        answer
-    }
-
-    fn place_of(&mut self, room: &RoomName, id: WriteId) -> Result<Option<PlaceRow>, Fault> {
-        let Some(mut memory) = self.recall()? else {
-            return self.keeper.place_of(room, id);
-        };
-        let answer = memory.place_of(room, id);
-        if is_failure(&answer) {
-            return self.keeper.place_of(room, id);
-        }
-        self.memory = Some(memory);
-        answer
-    }
-
-    fn errors(&mut self, room: &RoomName) -> Result<Vec<ErrorRow>, Fault> {
-        let Some(mut memory) = self.recall()? else {
-            return self.keeper.errors(room);
-        };
-        let answer = memory.errors(room);
-        if is_failure(&answer) {
-            return self.keeper.errors(room);
-        }
-        self.memory = Some(memory);
-        answer
-    }
-
-    fn cancelled(&mut self, room: &RoomName) -> Result<Vec<CancelledRow>, Fault> {
-        let Some(mut memory) = self.recall()? else {
-            return self.keeper.cancelled(room);
-        };
-        let answer = memory.cancelled(room);
-        if is_failure(&answer) {
-            return self.keeper.cancelled(room);
-        }
-        self.memory = Some(memory);
-        answer
-    }
-
-    fn cancels(&mut self, room: &RoomName) -> Result<Vec<CancelRow>, Fault> {
-        let Some(mut memory) = self.recall()? else {
-            return self.keeper.cancels(room);
-        };
-        let answer = memory.cancels(room);
-        if is_failure(&answer) {
-            return self.keeper.cancels(room);
+            return self.keeper.query(question);
         }
         self.memory = Some(memory);
         answer

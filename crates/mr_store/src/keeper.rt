@@ -7,10 +7,12 @@ ghost use Rattle.mr_replica.specs.Desk.{StandsFor, IsWithinLimits};
 ghost use Rattle.mr_part.specs.NextId.{id_given};
 ghost use Rattle.mr_part.specs.Parts.{IsPartOf};
 ghost use Rattle.mr_part.specs.ScopeOf.{scope_of};
+ghost use Rattle.mr_store.specs.Answers.{IsAnswerTo, IsNamedAs};
 ghost use Rattle.mr_store.specs.KeeperCalls.{failures_for, IsAtomic, IsQuiet};
 ghost use Rattle.mr_store.specs.Picked.{picked_errors, picked_cancelled, picked_cancels, AreBookings, IsPlaceOf};
 ghost use Rattle.mr_store.specs.Taken.{is_taken};
 
+use crate::{Answer, Question};
 use mr_base::{Day, Refusal, RoomName, WriteId};
 use mr_part::{Part, Scope};
 use mr_replica::Desk;
@@ -53,7 +55,8 @@ impl Fault {
     }
 }
 
-/// What holds a replica's tables. Contracts see it as the tables; a call that is refused leaves them as they are.
+/// What holds a replica's tables. Contracts see it as the tables; a call that is refused leaves them as they are. An `impl` has five
+/// calls; the trait makes the others of `query`.
 pub trait Keeper {
     ghost tables: { Self → Tables };
 
@@ -86,35 +89,11 @@ pub trait Keeper {
         ensures free { is_clean self.new → is_open self.old → IfOk result (λ part. is_taken (id_given (scope_of scope.now) part.summary) (tables self.old) ≡ false) }
         ensures within { IfOk result (λ part. IsWithin part.summary) };
 
-    /// The known rooms, in any order.
-    fn rooms(&mut self) -> Result<Vec<RoomName>, Fault>
+    /// What the tables answer to the question, in the variant of its name.
+    fn query(&mut self, question: &Question<'_>) -> Result<Answer, Fault>
         ensures quiet { IsQuiet tables failures is_clean is_open may_leave never_fails self.old self.new result }
-        ensures rooms { is_clean self.new → is_open self.old → IfOk result (λ rooms. IsPermutation (tables self.old).room rooms.items) };
-
-    /// The bookings of a room, of a day or of all days, by day, start, server and count.
-    fn bookings(&mut self, room: &RoomName, day: Option<Day>) -> Result<Vec<BookingRow>, Fault>
-        ensures quiet { IsQuiet tables failures is_clean is_open may_leave never_fails self.old self.new result }
-        ensures bookings { is_clean self.new → is_open self.old → IfOk result (λ rows. AreBookings room.now day (tables self.old) rows.items) };
-
-    /// The row of the write with this id, if it is of that room.
-    fn place_of(&mut self, room: &RoomName, id: WriteId) -> Result<Option<PlaceRow>, Fault>
-        ensures quiet { IsQuiet tables failures is_clean is_open may_leave never_fails self.old self.new result }
-        ensures place { is_clean self.new → is_open self.old → IfOk result (λ row. IsPlaceOf room.now id (tables self.old) row) };
-
-    /// The error log's rows of a room, in any order.
-    fn errors(&mut self, room: &RoomName) -> Result<Vec<ErrorRow>, Fault>
-        ensures quiet { IsQuiet tables failures is_clean is_open may_leave never_fails self.old self.new result }
-        ensures errors { is_clean self.new → is_open self.old → IfOk result (λ rows. IsPermutation (picked_errors room.now (tables self.old)) rows.items) };
-
-    /// The rows of a room's bookings that a cancel took back, in any order.
-    fn cancelled(&mut self, room: &RoomName) -> Result<Vec<CancelledRow>, Fault>
-        ensures quiet { IsQuiet tables failures is_clean is_open may_leave never_fails self.old self.new result }
-        ensures cancelled { is_clean self.new → is_open self.old → IfOk result (λ rows. IsPermutation (picked_cancelled room.now (tables self.old)) rows.items) };
-
-    /// The rows of a room's cancels, in any order.
-    fn cancels(&mut self, room: &RoomName) -> Result<Vec<CancelRow>, Fault>
-        ensures quiet { IsQuiet tables failures is_clean is_open may_leave never_fails self.old self.new result }
-        ensures cancels { is_clean self.new → is_open self.old → IfOk result (λ rows. IsPermutation (picked_cancels room.now (tables self.old)) rows.items) };
+        ensures named { IfOk result (IsNamedAs question.now) }
+        ensures answers { is_clean self.new → is_open self.old → IfOk result (IsAnswerTo question.now (tables self.old)) };
 
     /// All rows of all tables.
     fn read(&mut self) -> Result<Tables, Fault>
@@ -124,4 +103,70 @@ pub trait Keeper {
     /// Makes the whole change, or nothing.
     fn apply(&mut self, change: &Change) -> Result<(), Fault>
         ensures atomic { IsAtomic tables failures is_clean is_open may_leave never_fails change.now self.old self.new result };
+
+    /// The known rooms, in any order.
+    fn rooms(&mut self) -> Result<Vec<RoomName>, Fault>
+        ensures quiet { IsQuiet tables failures is_clean is_open may_leave never_fails self.old self.new result }
+        ensures rooms { is_clean self.new → is_open self.old → IfOk result (λ rooms. IsPermutation (tables self.old).room rooms.items) }
+    {
+        match self.query(&Question::Rooms)? {
+            Answer::Rooms(rooms) => Ok(rooms),
+            _ => unreachable!(),
+        }
+    }
+
+    /// The bookings of a room, of a day or of all days, by day, start, server and count.
+    fn bookings(&mut self, room: &RoomName, day: Option<Day>) -> Result<Vec<BookingRow>, Fault>
+        ensures quiet { IsQuiet tables failures is_clean is_open may_leave never_fails self.old self.new result }
+        ensures bookings { is_clean self.new → is_open self.old → IfOk result (λ rows. AreBookings room.now day (tables self.old) rows.items) }
+    {
+        match self.query(&Question::Bookings(room, day))? {
+            Answer::Bookings(rows) => Ok(rows),
+            _ => unreachable!(),
+        }
+    }
+
+    /// The row of the write with this id, if it is of that room.
+    fn place_of(&mut self, room: &RoomName, id: WriteId) -> Result<Option<PlaceRow>, Fault>
+        ensures quiet { IsQuiet tables failures is_clean is_open may_leave never_fails self.old self.new result }
+        ensures place { is_clean self.new → is_open self.old → IfOk result (λ row. IsPlaceOf room.now id (tables self.old) row) }
+    {
+        match self.query(&Question::PlaceOf(room, id))? {
+            Answer::PlaceOf(row) => Ok(row),
+            _ => unreachable!(),
+        }
+    }
+
+    /// The error log's rows of a room, in any order.
+    fn errors(&mut self, room: &RoomName) -> Result<Vec<ErrorRow>, Fault>
+        ensures quiet { IsQuiet tables failures is_clean is_open may_leave never_fails self.old self.new result }
+        ensures errors { is_clean self.new → is_open self.old → IfOk result (λ rows. IsPermutation (picked_errors room.now (tables self.old)) rows.items) }
+    {
+        match self.query(&Question::Errors(room))? {
+            Answer::Errors(rows) => Ok(rows),
+            _ => unreachable!(),
+        }
+    }
+
+    /// The rows of a room's bookings that a cancel took back, in any order.
+    fn cancelled(&mut self, room: &RoomName) -> Result<Vec<CancelledRow>, Fault>
+        ensures quiet { IsQuiet tables failures is_clean is_open may_leave never_fails self.old self.new result }
+        ensures cancelled { is_clean self.new → is_open self.old → IfOk result (λ rows. IsPermutation (picked_cancelled room.now (tables self.old)) rows.items) }
+    {
+        match self.query(&Question::Cancelled(room))? {
+            Answer::Cancelled(rows) => Ok(rows),
+            _ => unreachable!(),
+        }
+    }
+
+    /// The rows of a room's cancels, in any order.
+    fn cancels(&mut self, room: &RoomName) -> Result<Vec<CancelRow>, Fault>
+        ensures quiet { IsQuiet tables failures is_clean is_open may_leave never_fails self.old self.new result }
+        ensures cancels { is_clean self.new → is_open self.old → IfOk result (λ rows. IsPermutation (picked_cancels room.now (tables self.old)) rows.items) }
+    {
+        match self.query(&Question::Cancels(room))? {
+            Answer::Cancels(rows) => Ok(rows),
+            _ => unreachable!(),
+        }
+    }
 }

@@ -7,14 +7,13 @@ ghost use Rattle.std.proofs.Props.{props};
 ghost use Rattle.mr_lists.specs.RowsAround.{AreInOrder, in_order-prop};
 
 use crate::ids::is_taken;
-use crate::queries::{bookings_of, place_of, rows_in};
-use crate::{Fault, Keeper};
-use mr_base::{Day, Refusal, RoomName, ServerId, WriteId};
+use crate::queries::answer_in;
+use crate::{Answer, Fault, Keeper, Question};
+use mr_base::{Refusal, ServerId};
 use mr_lists::lists::{are_in_order, change_tables, copied, opening_tables};
-use mr_lists::rows::copies_of;
 use mr_part::{Part, Scope};
 use mr_replica::Desk;
-use mr_tables::{BookingRow, CancelRow, CancelledRow, Change, ErrorRow, PlaceRow, Tables};
+use mr_tables::{Change, Tables};
 use std::alloc::{AllocError, Global};
 use std::marker::Model;
 
@@ -107,44 +106,9 @@ impl Keeper for ListKeeper {
         }
     }
 
-    fn rooms(&mut self) -> Result<Vec<RoomName>, Fault> {
-        match copies_of(self.alloc, &self.tables.room) {
-            Ok(rooms) => Ok(rooms),
-            Err(AllocError) => Err(Fault::OutOfMemory),
-        }
-    }
-
-    fn bookings(&mut self, room: &RoomName, day: Option<Day>) -> Result<Vec<BookingRow>, Fault> {
-        match bookings_of(self.alloc, &self.tables, room, day) {
-            Ok(rows) => Ok(rows),
-            Err(AllocError) => Err(Fault::OutOfMemory),
-        }
-    }
-
-    fn place_of(&mut self, room: &RoomName, id: WriteId) -> Result<Option<PlaceRow>, Fault> {
-        match place_of(self.alloc, &self.tables, room, id) {
-            Ok(row) => Ok(row),
-            Err(AllocError) => Err(Fault::OutOfMemory),
-        }
-    }
-
-    fn errors(&mut self, room: &RoomName) -> Result<Vec<ErrorRow>, Fault> {
-        match rows_in(self.alloc, &self.tables.errorlog, room) {
-            Ok(rows) => Ok(rows),
-            Err(AllocError) => Err(Fault::OutOfMemory),
-        }
-    }
-
-    fn cancelled(&mut self, room: &RoomName) -> Result<Vec<CancelledRow>, Fault> {
-        match rows_in(self.alloc, &self.tables.cancelled, room) {
-            Ok(rows) => Ok(rows),
-            Err(AllocError) => Err(Fault::OutOfMemory),
-        }
-    }
-
-    fn cancels(&mut self, room: &RoomName) -> Result<Vec<CancelRow>, Fault> {
-        match rows_in(self.alloc, &self.tables.cancels, room) {
-            Ok(rows) => Ok(rows),
+    fn query(&mut self, question: &Question<'_>) -> Result<Answer, Fault> {
+        match answer_in(self.alloc, &self.tables, question) {
+            Ok(answer) => Ok(answer),
             Err(AllocError) => Err(Fault::OutOfMemory),
         }
     }

@@ -1,5 +1,4 @@
 ghost use Rattle.std.specs.Prelude.{◌≡◌, ◌-◌, false, ◌||◌, IfOk};
-ghost use Rattle.std.specs.List.Sorted.{IsPermutation};
 ghost use Rattle.mr_model.specs.Replica.{Replica};
 ghost use Rattle.mr_model.specs.Tables.{Stands};
 ghost use Rattle.mr_tables.specs.Summary.{IsWithin};
@@ -7,15 +6,14 @@ ghost use Rattle.mr_replica.specs.Desk.{StandsFor, IsWithinLimits};
 ghost use Rattle.mr_part.specs.NextId.{id_given};
 ghost use Rattle.mr_part.specs.Parts.{IsPartOf};
 ghost use Rattle.mr_part.specs.ScopeOf.{scope_of};
-ghost use Rattle.mr_store.specs.Picked.{picked_errors, picked_cancelled, picked_cancels, AreBookings, IsPlaceOf};
+ghost use Rattle.mr_store.specs.Answers.{IsAnswerTo, IsNamedAs};
 ghost use Rattle.mr_store.specs.Taken.{is_taken};
 ghost use Rattle.mr_store.specs.Trips.{is_due, IsTripped, IsQuietAt, IsAtomicAt};
 
-use crate::{Fault, Keeper};
-use mr_base::{Day, RoomName, WriteId};
+use crate::{Answer, Fault, Keeper, Question};
 use mr_part::{Part, Scope};
 use mr_replica::Desk;
-use mr_tables::{BookingRow, CancelRow, CancelledRow, Change, ErrorRow, PlaceRow, Tables};
+use mr_tables::{Change, Tables};
 
 /// A keeper for tests, which fails once: it passes `left` calls on, answers the fault to the next one without passing it on,
 /// and passes on all others.
@@ -95,70 +93,16 @@ impl<K: Keeper> Keeper for Tripped<K> {
         self.keeper.load_part(scope)
     }
 
-    fn rooms(&mut self) -> Result<Vec<RoomName>, Fault>
+    fn query(&mut self, question: &Question<'_>) -> Result<Answer, Fault>
         ensures quiet { IsQuietAt ⟦<Tripped<K> as Keeper>⟧ self.old self.new result }
-        ensures rooms { K.is_clean self.new.keeper → K.is_open self.old.keeper → IfOk result (λ rooms. IsPermutation (K.tables self.old.keeper).room rooms.items) }
+        ensures named { IfOk result (IsNamedAs question.now) }
+        ensures answers { K.is_clean self.new.keeper → K.is_open self.old.keeper → IfOk result (IsAnswerTo question.now (K.tables self.old.keeper)) }
         ensures trips { IsTripped self.old self.new result }
     {
         if self.trips() {
             return Err(self.fault);
         }
-        self.keeper.rooms()
-    }
-
-    fn bookings(&mut self, room: &RoomName, day: Option<Day>) -> Result<Vec<BookingRow>, Fault>
-        ensures quiet { IsQuietAt ⟦<Tripped<K> as Keeper>⟧ self.old self.new result }
-        ensures bookings { K.is_clean self.new.keeper → K.is_open self.old.keeper → IfOk result (λ rows. AreBookings room.now day (K.tables self.old.keeper) rows.items) }
-        ensures trips { IsTripped self.old self.new result }
-    {
-        if self.trips() {
-            return Err(self.fault);
-        }
-        self.keeper.bookings(room, day)
-    }
-
-    fn place_of(&mut self, room: &RoomName, id: WriteId) -> Result<Option<PlaceRow>, Fault>
-        ensures quiet { IsQuietAt ⟦<Tripped<K> as Keeper>⟧ self.old self.new result }
-        ensures place { K.is_clean self.new.keeper → K.is_open self.old.keeper → IfOk result (λ row. IsPlaceOf room.now id (K.tables self.old.keeper) row) }
-        ensures trips { IsTripped self.old self.new result }
-    {
-        if self.trips() {
-            return Err(self.fault);
-        }
-        self.keeper.place_of(room, id)
-    }
-
-    fn errors(&mut self, room: &RoomName) -> Result<Vec<ErrorRow>, Fault>
-        ensures quiet { IsQuietAt ⟦<Tripped<K> as Keeper>⟧ self.old self.new result }
-        ensures errors { K.is_clean self.new.keeper → K.is_open self.old.keeper → IfOk result (λ rows. IsPermutation (picked_errors room.now (K.tables self.old.keeper)) rows.items) }
-        ensures trips { IsTripped self.old self.new result }
-    {
-        if self.trips() {
-            return Err(self.fault);
-        }
-        self.keeper.errors(room)
-    }
-
-    fn cancelled(&mut self, room: &RoomName) -> Result<Vec<CancelledRow>, Fault>
-        ensures quiet { IsQuietAt ⟦<Tripped<K> as Keeper>⟧ self.old self.new result }
-        ensures cancelled { K.is_clean self.new.keeper → K.is_open self.old.keeper → IfOk result (λ rows. IsPermutation (picked_cancelled room.now (K.tables self.old.keeper)) rows.items) }
-        ensures trips { IsTripped self.old self.new result }
-    {
-        if self.trips() {
-            return Err(self.fault);
-        }
-        self.keeper.cancelled(room)
-    }
-
-    fn cancels(&mut self, room: &RoomName) -> Result<Vec<CancelRow>, Fault>
-        ensures quiet { IsQuietAt ⟦<Tripped<K> as Keeper>⟧ self.old self.new result }
-        ensures cancels { K.is_clean self.new.keeper → K.is_open self.old.keeper → IfOk result (λ rows. IsPermutation (picked_cancels room.now (K.tables self.old.keeper)) rows.items) }
-        ensures trips { IsTripped self.old self.new result }
-    {
-        if self.trips() {
-            return Err(self.fault);
-        }
-        self.keeper.cancels(room)
+        self.keeper.query(question)
     }
 
     fn read(&mut self) -> Result<Tables, Fault>

@@ -1,10 +1,9 @@
 ghost use Rattle.std.specs.Prelude.{◌≡◌};
 
-use crate::{Fault, Keeper, ListKeeper};
-use mr_base::{Day, RoomName, WriteId};
+use crate::{Answer, Fault, Keeper, ListKeeper, Question};
 use mr_part::{Part, Scope};
 use mr_replica::Desk;
-use mr_tables::{BookingRow, CancelRow, CancelledRow, Change, ErrorRow, PlaceRow, Tables};
+use mr_tables::{Change, Tables};
 
 /// A keeper for tests, over lists, which loads no desk: to ask for one is answered as a failure of the store. It passes all other calls on.
 #[derive(Drop)]
@@ -45,28 +44,8 @@ impl Keeper for WithoutDesk {
         self.lists.load_part(scope)
     }
 
-    fn rooms(&mut self) -> Result<Vec<RoomName>, Fault> {
-        self.lists.rooms()
-    }
-
-    fn bookings(&mut self, room: &RoomName, day: Option<Day>) -> Result<Vec<BookingRow>, Fault> {
-        self.lists.bookings(room, day)
-    }
-
-    fn place_of(&mut self, room: &RoomName, id: WriteId) -> Result<Option<PlaceRow>, Fault> {
-        self.lists.place_of(room, id)
-    }
-
-    fn errors(&mut self, room: &RoomName) -> Result<Vec<ErrorRow>, Fault> {
-        self.lists.errors(room)
-    }
-
-    fn cancelled(&mut self, room: &RoomName) -> Result<Vec<CancelledRow>, Fault> {
-        self.lists.cancelled(room)
-    }
-
-    fn cancels(&mut self, room: &RoomName) -> Result<Vec<CancelRow>, Fault> {
-        self.lists.cancels(room)
+    fn query(&mut self, question: &Question<'_>) -> Result<Answer, Fault> {
+        self.lists.query(question)
     }
 
     fn read(&mut self) -> Result<Tables, Fault> {
