@@ -8,6 +8,7 @@ pub mod TableFacts
 pub mod StepLemmas
 pub mod StatementLemmas
 pub mod CellLemmas
+pub mod ShownRows
 pub mod QueryLemmas
 pub mod StreamedRows
 pub mod FirstLemmas

@@ -1,15 +1,18 @@
-ghost use Rattle.std.specs.Prelude.{◌≡◌, refl};
+ghost use Rattle.std.specs.Prelude.{◌≡◌, ◌≢◌, ◌∷◌, false, IfOk, IfErr, IsTrue, refl};
+ghost use Rattle.sqlite_value.specs.declared.value.Value.TheVariants.{Null};
 ghost use Rattle.mr_model.specs.Writes.{Id};
 ghost use Rattle.mr_model.specs.Queries.{cancelled_id, cancel_id};
 ghost use Rattle.mr_base.specs.Ids.{id_cmp};
+ghost use Rattle.mr_rows.specs.RowCells.{cancel_row_from};
+ghost use Rattle.mr_rows.specs.CellLimits.{are_cancel_cells};
 ghost use Rattle.mr_rows.specs.Form.{cancelled_form, cancel_form};
 ghost use Rattle.mr_rows.specs.ChangeParts.{take_cancelled, put_cancelled, put_cancels};
 ghost use Rattle.mr_rows.specs.TakeLaws.{cancelled_none, cancelled_more};
 
 use crate::asked_rows::add_shown;
 use crate::cells::{
-    read_count, read_day, read_id, read_mark, read_minute, read_name, read_server, read_title,
-    read_u64, test_booking_cells, test_name,
+    has_commit, has_id, has_mark, has_name, has_time, passes, read_commit, read_id, read_mark,
+    read_name, read_time,
 };
 use crate::found::test_rows;
 use crate::numbers::Number;
@@ -17,11 +20,12 @@ use crate::passing::PassingRow;
 use crate::puts::{day_text, parts_of, put_cancel_cells, put_cancelled_cells};
 use crate::queries::ask;
 use crate::row_tests::RowTest;
+use crate::slot_cells::{has_cancelled, read_cancelled};
 use crate::stored_rows::{FoundRow, RequestRow, StoredRow};
 use crate::table_rows::compare_ids;
 use mr_base::{RoomName, WriteId};
 use mr_tables::{CancelRow, CancelledRow};
-use sqlite::{Alter, Connection, Error, Row, Transaction, params};
+use sqlite::{Alter, Connection, Error, ErrorCode, Row, Transaction, params};
 use std::alloc::Global;
 use std::cmp::Ordering;
 
@@ -46,33 +50,11 @@ impl StoredRow for CancelledRow {
     ghost put_in = { put_cancelled };
 
     fn read(alloc: Global, row: &Row) -> Result<CancelledRow, Error> {
-        let room = read_name(alloc, row, 0)?;
-        let day = read_day(row, 1)?;
-        let start = read_minute(row, 2)?;
-        let stop = read_minute(row, 3)?;
-        let server = read_server(row, 4)?;
-        let n = read_count(row, 5)?;
-        let title = read_title(alloc, row, 6)?;
-        let committed = read_mark(row, 7)?;
-        let by = read_id(row, 8)?;
-        Ok(CancelledRow {
-            room,
-            day,
-            start,
-            stop,
-            server,
-            n,
-            title,
-            committed,
-            by,
-        })
+        read_cancelled(alloc, row)
     }
 
     fn test(row: &Row) -> Result<(), Error> {
-        test_booking_cells(row)?;
-        read_mark(row, 7)?;
-        read_id(row, 8)?;
-        Ok(())
+        passes(has_cancelled(row))
     }
 
     fn compare(a: &CancelledRow, b: &CancelledRow) -> Ordering {
@@ -141,33 +123,11 @@ impl StoredRow for CancelRow {
     ghost put_in = { put_cancels };
 
     fn read(alloc: Global, row: &Row) -> Result<CancelRow, Error> {
-        let server = read_server(row, 0)?;
-        let n = read_count(row, 1)?;
-        let room = read_name(alloc, row, 2)?;
-        let target = read_id(row, 3)?;
-        let done = read_mark(row, 5)?;
-        let time = read_u64(row, 6)?;
-        let seq = read_u64(row, 7)?;
-        Ok(CancelRow {
-            server,
-            n,
-            room,
-            target,
-            done,
-            time,
-            seq,
-        })
+        read_cancel(alloc, row)
     }
 
     fn test(row: &Row) -> Result<(), Error> {
-        read_server(row, 0)?;
-        read_count(row, 1)?;
-        test_name(row, 2)?;
-        read_id(row, 3)?;
-        read_mark(row, 5)?;
-        read_u64(row, 6)?;
-        read_u64(row, 7)?;
-        Ok(())
+        passes(has_cancel(row))
     }
 
     fn compare(a: &CancelRow, b: &CancelRow) -> Ordering {
@@ -197,4 +157,37 @@ impl FoundRow for CancelRow {
     fn find<S: Alter>(conn: &mut Connection<S>) -> Result<(), Error> {
         test_rows::<CancelRow, S>(conn, ALL_CANCELS)
     }
+}
+
+fn read_cancel(alloc: Global, row: &Row) -> Result<CancelRow, Error>
+    ensures row { IfOk result (λ r. r ≡ cancel_row_from (Null ∷ row.now)) }
+    ensures told { IfOk result (λ _. IsTrue (are_cancel_cells row.now)) }
+    ensures refused { IfErr result (λ e. e ≢ Error.SqliteFailure ErrorCode.OutOfMemory → are_cancel_cells row.now ≡ false) }
+{
+    let id = read_id(row, 0)?;
+    let room = read_name(alloc, row, 2)?;
+    let target = read_id(row, 3)?;
+    let done = read_mark(row, 5)?;
+    let time = read_time(row, 6)?;
+    let seq = read_commit(row, 7)?;
+    Ok(CancelRow {
+        server: id.server,
+        n: id.n,
+        room,
+        target,
+        done,
+        time,
+        seq,
+    })
+}
+
+fn has_cancel(row: &Row) -> bool
+    ensures { result ≡ are_cancel_cells row.now }
+{
+    has_id(row, 0)
+        && has_name(row, 2)
+        && has_id(row, 3)
+        && has_mark(row, 5)
+        && has_time(row, 6)
+        && has_commit(row, 7)
 }

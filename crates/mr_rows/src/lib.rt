@@ -19,6 +19,7 @@ pub mod puts;
 pub mod queries;
 mod questions;
 mod row_tests;
+mod slot_cells;
 mod stored_rows;
 mod table_rows;
 mod whole;

@@ -12,7 +12,7 @@ ghost use Rattle.mr_rows.specs.Shown.{IsShownSo};
 ghost use Rattle.mr_rows.specs.Reads.{Looks, ReadsKept};
 ghost use Rattle.mr_rows.specs.RowQuestions.{row_stamp, stamp_of_row};
 
-use crate::cells::{read_server, read_u32, read_u64};
+use crate::cells::{read_id, read_time};
 use crate::queries::LOGS_BETWEEN;
 use mr_base::ServerId;
 use sqlite::types::ValueRef;
@@ -30,10 +30,13 @@ pub struct LogStamp {
 fn read_stamp(row: &Row) -> Result<LogStamp, Error>
     ensures { IfOk result (λ stamp. stamp ≡ row_stamp (Null ∷ row.now)) }
 {
-    let server = read_server(row, 0)?;
-    let n = read_u32(row, 1)?;
-    let time = read_u64(row, 2)?;
-    Ok(LogStamp { time, server, n })
+    let id = read_id(row, 0)?;
+    let time = read_time(row, 2)?;
+    Ok(LogStamp {
+        time,
+        server: id.server,
+        n: id.n,
+    })
 }
 
 /// Puts the stamp of the row behind those that are there.

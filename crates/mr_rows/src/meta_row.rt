@@ -1,14 +1,17 @@
-ghost use Rattle.std.specs.Prelude.{◌≡◌, ◌∷◌, false, map, IfOk, IsTrue, Some};
+ghost use Rattle.std.specs.Prelude.{◌≡◌, ◌∷◌, false, map, IfOk, IfErr, IsTrue, Some};
 ghost use Rattle.sqlite_value.specs.declared.value.Value.TheVariants.{Null};
 ghost use Rattle.sqlite.specs.Held.{state};
 ghost use Rattle.mr_rows.specs.RowCells.{meta_in, meta_cells, meta_cells_of};
 ghost use Rattle.mr_rows.specs.RowLimits.{is_meta_row};
+ghost use Rattle.mr_rows.specs.CellLimits.{are_meta_cells};
+ghost use Rattle.mr_rows.specs.Form.{meta_form};
 ghost use Rattle.mr_rows.specs.Database.{tables_in};
 ghost use Rattle.mr_rows.specs.Reads.{ReadsKept, first_of};
-ghost use Rattle.mr_rows.specs.Shown.{columns_from};
+ghost use Rattle.mr_rows.specs.Shown.{columns_from, IsShownAs};
 
-use crate::cells::{read_server, read_u32, read_u64};
+use crate::cells::{has_number, read_commit, read_number, read_server};
 use crate::queries::select_all_meta;
+use mr_base::GREATEST_TIME;
 use mr_tables::MetaRow;
 use sqlite::{Alter, Connection, Error, Row};
 
@@ -17,6 +20,7 @@ pub(crate) fn read_meta(row: &Row) -> Result<MetaRow, Error>
     ensures row { IfOk result (λ r. r ≡ meta_in (Null ∷ row.now)) }
     ensures cells { IfOk result (λ r. meta_cells r ≡ columns_from 0 7 row.now) }
     ensures within { IfOk result (λ r. IsTrue (is_meta_row r)) }
+    ensures refused { IfErr result (λ _. ¬ IsShownAs meta_form row.now) }
 {
     read_meta_of(row, 2)
 }
@@ -26,17 +30,16 @@ pub fn read_meta_of(row: &Row, schema: u32) -> Result<MetaRow, Error>
     ensures row { IfOk result (λ r. r ≡ meta_in (Null ∷ row.now)) }
     ensures cells { IfOk result (λ r. meta_cells_of schema r ≡ columns_from 0 7 row.now) }
     ensures within { IfOk result (λ r. IsTrue (is_meta_row r)) }
+    ensures refused { IfErr result (λ _. are_meta_cells schema row.now ≡ false) }
 {
-    let one = read_u32(row, 0)?;
-    let told = read_u32(row, 1)?;
-    if one != 1 || told != schema {
+    if !has_number(row, 0, 1, 1) || !has_number(row, 1, u64::from(schema), u64::from(schema)) {
         return Err(Error::IntegralValueOutOfRange(0));
     }
     let server = read_server(row, 2)?;
     let primary = read_server(row, 3)?;
-    let commits = read_u64(row, 4)?;
-    let dropped = read_u64(row, 5)?;
-    let clock = read_u64(row, 6)?;
+    let commits = read_commit(row, 4)?;
+    let dropped = read_commit(row, 5)?;
+    let clock = read_number(row, 6, 0, GREATEST_TIME)?;
     Ok(MetaRow {
         server,
         primary,

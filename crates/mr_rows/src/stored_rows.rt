@@ -1,4 +1,4 @@
-ghost use Rattle.std.specs.Prelude.{◌≡◌, [], ◌∷◌, false, length, map, List, IfOk, OnOk, IsTrue};
+ghost use Rattle.std.specs.Prelude.{◌≡◌, ◌≢◌, [], ◌∷◌, false, length, map, List, IfOk, IfErr, OnOk, IsTrue};
 ghost use Rattle.std.specs.List.Sorted.{IsPermutation};
 ghost use Rattle.std.specs.Cmp.{IsTotalOrder};
 ghost use Rattle.std.specs.declared.cmp.Ordering.{Ordering as Order};
@@ -14,7 +14,7 @@ ghost use Rattle.mr_rows.specs.Database.{MakesTables, tables_in};
 ghost use Rattle.mr_rows.specs.Reads.{ReadsKept, Looks};
 
 use mr_base::WriteId;
-use sqlite::{Alter, Connection, Error, Row, Transaction};
+use sqlite::{Alter, Connection, Error, ErrorCode, Row, Transaction};
 use std::alloc::Global;
 use std::cmp::Ordering;
 
@@ -39,11 +39,13 @@ pub trait StoredRow: Drop {
     fn read(alloc: Global, row: &Row) -> Result<Self, Error>
         ensures row { IfOk result (λ r. r ≡ form.row_in (Null ∷ row.now)) }
         ensures cells { IfOk result (λ r. form.cells r ≡ columns_from 0 (length form.table.columns) row.now) }
-        ensures within { IfOk result (λ r. IsTrue (form.within r)) };
+        ensures within { IfOk result (λ r. IsTrue (form.within r)) }
+        ensures refused { IfErr result (λ e. e ≢ Error.SqliteFailure ErrorCode.OutOfMemory → ¬ IsShownAs form row.now) };
 
     /// Tests a row that a query shows, as `read` does, and makes nothing of it.
     fn test(row: &Row) -> Result<(), Error>
-        ensures { OnOk result (IsShownAs form row.now) };
+        ensures passes { OnOk result (IsShownAs form row.now) }
+        ensures refused { IfErr result (λ _. ¬ IsShownAs form row.now) };
 
     /// Compares the keys.
     fn compare(a: &Self, b: &Self) -> Ordering

@@ -1,19 +1,22 @@
-ghost use Rattle.std.specs.Prelude.{◌≡◌, ℕ, refl};
+ghost use Rattle.std.specs.Prelude.{◌≡◌, ◌≢◌, ◌∷◌, ℕ, false, IfOk, IfErr, IsTrue, refl};
 ghost use Rattle.std.specs.Cmp.Lexicographic.{slice_cmp};
 ghost use Rattle.std.specs.Ordering.{nat_cmp};
 ghost use Rattle.mr_model.specs.Texts.{Text};
 ghost use Rattle.mr_model.specs.Writes.{Id};
 ghost use Rattle.mr_model.specs.Queries.{booking_id, error_id, log_id};
 ghost use Rattle.mr_base.specs.Ids.{id_cmp};
+ghost use Rattle.sqlite_value.specs.declared.value.Value.TheVariants.{Null};
+ghost use Rattle.mr_rows.specs.RowCells.{vector_in, log_in};
+ghost use Rattle.mr_rows.specs.CellLimits.{are_vector_cells, are_log_cells};
 ghost use Rattle.mr_rows.specs.Form.{room_form, vector_form, log_form, booking_form, error_form};
 ghost use Rattle.mr_rows.specs.ChangeParts.{take_logs, take_bookings, take_errors, put_rooms, put_vector, put_logs, put_bookings, put_errors};
 ghost use Rattle.mr_rows.specs.TakeLaws.{logs_none, bookings_none, errors_none, logs_more, bookings_more, errors_more};
 
-use crate::actions::{read_action, read_place_of, test_action, test_place};
+use crate::actions::{has_action, read_action};
 use crate::asked_rows::add_shown;
 use crate::cells::{
-    read_count, read_day, read_mark, read_minute, read_name, read_server, read_title, read_u32,
-    read_u64, test_booking_cells, test_name,
+    has_commit, has_id, has_name, has_number, has_time, passes, read_commit, read_id, read_name,
+    read_number, read_time,
 };
 use crate::found::test_rows;
 use crate::numbers::Number;
@@ -23,10 +26,11 @@ use crate::puts::{
 };
 use crate::queries::ask;
 use crate::row_tests::RowTest;
+use crate::slot_cells::{has_booking, has_error, read_booking, read_error};
 use crate::stored_rows::{FoundRow, RequestRow, StoredRow};
-use mr_base::{RoomName, ServerId, WriteId};
+use mr_base::{GREATEST_COUNT, RoomName, ServerId, WriteId};
 use mr_tables::{BookingRow, ErrorRow, LogRow, VectorRow};
-use sqlite::{Alter, Connection, Error, Row, Transaction, params};
+use sqlite::{Alter, Connection, Error, ErrorCode, Row, Transaction, params};
 use std::alloc::Global;
 use std::cmp::Ordering;
 
@@ -62,7 +66,7 @@ impl StoredRow for RoomName {
     }
 
     fn test(row: &Row) -> Result<(), Error> {
-        test_name(row, 0)
+        passes(has_name(row, 0))
     }
 
     fn compare(a: &RoomName, b: &RoomName) -> Ordering {
@@ -107,24 +111,11 @@ impl StoredRow for VectorRow {
     ghost put_in = { put_vector };
 
     fn read(_alloc: Global, row: &Row) -> Result<VectorRow, Error> {
-        let server = read_server(row, 0)?;
-        let count = read_u32(row, 1)?;
-        let last_time = read_u64(row, 2)?;
-        let committed = read_u32(row, 3)?;
-        Ok(VectorRow {
-            server,
-            count,
-            last_time,
-            committed,
-        })
+        read_vector(row)
     }
 
     fn test(row: &Row) -> Result<(), Error> {
-        read_server(row, 0)?;
-        read_u32(row, 1)?;
-        read_u64(row, 2)?;
-        read_u32(row, 3)?;
-        Ok(())
+        passes(has_vector(row))
     }
 
     fn compare(a: &VectorRow, b: &VectorRow) -> Ordering {
@@ -167,33 +158,11 @@ impl StoredRow for LogRow {
     ghost put_in = { put_logs };
 
     fn read(alloc: Global, row: &Row) -> Result<LogRow, Error> {
-        let server = read_server(row, 0)?;
-        let n = read_u32(row, 1)?;
-        let time = read_u64(row, 2)?;
-        let room = read_name(alloc, row, 3)?;
-        let action = read_action(alloc, row)?;
-        let place = read_place_of(row, &action)?;
-        let seq = read_u64(row, 11)?;
-        Ok(LogRow {
-            server,
-            n,
-            time,
-            room,
-            action,
-            place,
-            seq,
-        })
+        read_log(alloc, row)
     }
 
     fn test(row: &Row) -> Result<(), Error> {
-        read_server(row, 0)?;
-        read_u32(row, 1)?;
-        read_u64(row, 2)?;
-        test_name(row, 3)?;
-        let is_cancel = test_action(row)?;
-        test_place(row, is_cancel)?;
-        read_u64(row, 11)?;
-        Ok(())
+        passes(has_log(row))
     }
 
     fn compare(a: &LogRow, b: &LogRow) -> Ordering {
@@ -252,30 +221,11 @@ impl StoredRow for BookingRow {
     ghost put_in = { put_bookings };
 
     fn read(alloc: Global, row: &Row) -> Result<BookingRow, Error> {
-        let room = read_name(alloc, row, 0)?;
-        let day = read_day(row, 1)?;
-        let start = read_minute(row, 2)?;
-        let stop = read_minute(row, 3)?;
-        let server = read_server(row, 4)?;
-        let n = read_count(row, 5)?;
-        let title = read_title(alloc, row, 6)?;
-        let committed = read_mark(row, 7)?;
-        Ok(BookingRow {
-            room,
-            day,
-            start,
-            stop,
-            server,
-            n,
-            title,
-            committed,
-        })
+        read_booking(alloc, row)
     }
 
     fn test(row: &Row) -> Result<(), Error> {
-        test_booking_cells(row)?;
-        read_mark(row, 7)?;
-        Ok(())
+        passes(has_booking(row))
     }
 
     fn compare(a: &BookingRow, b: &BookingRow) -> Ordering {
@@ -344,33 +294,11 @@ impl StoredRow for ErrorRow {
     ghost put_in = { put_errors };
 
     fn read(alloc: Global, row: &Row) -> Result<ErrorRow, Error> {
-        let room = read_name(alloc, row, 0)?;
-        let day = read_day(row, 1)?;
-        let start = read_minute(row, 2)?;
-        let stop = read_minute(row, 3)?;
-        let server = read_server(row, 4)?;
-        let n = read_count(row, 5)?;
-        let title = read_title(alloc, row, 6)?;
-        let time = read_u64(row, 7)?;
-        let seq = read_u64(row, 8)?;
-        Ok(ErrorRow {
-            room,
-            day,
-            start,
-            stop,
-            server,
-            n,
-            title,
-            time,
-            seq,
-        })
+        read_error(alloc, row)
     }
 
     fn test(row: &Row) -> Result<(), Error> {
-        test_booking_cells(row)?;
-        read_u64(row, 7)?;
-        read_u64(row, 8)?;
-        Ok(())
+        passes(has_error(row))
     }
 
     fn compare(a: &ErrorRow, b: &ErrorRow) -> Ordering {
@@ -423,4 +351,53 @@ pub fn compare_ids(a: (ServerId, u32), b: (ServerId, u32)) -> Ordering
     ensures { result ≡ id_cmp (record { server = a.0; n = a.1 }) (record { server = b.0; n = b.1 }) }
 {
     a.0.number().cmp(&b.0.number()).then(a.1.cmp(&b.1))
+}
+
+fn read_vector(row: &Row) -> Result<VectorRow, Error>
+    ensures row { IfOk result (λ r. r ≡ vector_in (Null ∷ row.now)) }
+    ensures told { IfOk result (λ _. IsTrue (are_vector_cells row.now)) }
+    ensures refused { IfErr result (λ _. are_vector_cells row.now ≡ false) }
+{
+    let id = read_id(row, 0)?;
+    let last_time = read_time(row, 2)?;
+    let committed = read_number(row, 3, 0, u64::from(GREATEST_COUNT))?;
+    Ok(VectorRow {
+        server: id.server,
+        count: id.n,
+        last_time,
+        committed: committed as u32,
+    })
+}
+
+fn has_vector(row: &Row) -> bool
+    ensures { result ≡ are_vector_cells row.now }
+{
+    has_id(row, 0) && has_time(row, 2) && has_number(row, 3, 0, u64::from(GREATEST_COUNT))
+}
+
+fn read_log(alloc: Global, row: &Row) -> Result<LogRow, Error>
+    ensures row { IfOk result (λ r. r ≡ log_in (Null ∷ row.now)) }
+    ensures told { IfOk result (λ _. IsTrue (are_log_cells row.now)) }
+    ensures refused { IfErr result (λ e. e ≢ Error.SqliteFailure ErrorCode.OutOfMemory → are_log_cells row.now ≡ false) }
+{
+    let id = read_id(row, 0)?;
+    let time = read_time(row, 2)?;
+    let room = read_name(alloc, row, 3)?;
+    let (action, place) = read_action(alloc, row)?;
+    let seq = read_commit(row, 11)?;
+    Ok(LogRow {
+        server: id.server,
+        n: id.n,
+        time,
+        room,
+        action,
+        place,
+        seq,
+    })
+}
+
+fn has_log(row: &Row) -> bool
+    ensures { result ≡ are_log_cells row.now }
+{
+    has_id(row, 0) && has_time(row, 2) && has_name(row, 3) && has_action(row) && has_commit(row, 11)
 }

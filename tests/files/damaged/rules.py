@@ -3,6 +3,7 @@
 import re
 
 import wire
+from limits import are_within_limits
 from standing import FATES, named
 
 # the refusals of docs/FORMATS.md, but 24: no memory is refused here
@@ -36,7 +37,7 @@ def is_store(printed):
 
 
 def do_numbers_agree(rows):
-    """`meta` and `vector` don't contradict each other. Numbers beyond the limits, and a time of 0, are seen by the test of all rows alone."""
+    """`meta` and `vector` don't contradict each other."""
     if len(rows['meta']) != 1:
         return False
     cells = [cell for row in rows['meta'] + rows['vector'] for cell in row]
@@ -58,12 +59,12 @@ def is_in_form(line, printed):
     return re.fullmatch(forms[0], first) is not None and bool(lines) == (len(forms) > 1) and all(re.fullmatch(forms[1], each) for each in lines)
 
 
-def faults_of_reply(line, printed, batch, changes):
-    """What is wrong with a reply. A question shows a row's slot as it stands: that it ends before it begins the test of all rows sees alone."""
+def faults_of_reply(line, printed, batch):
+    """What is wrong with a reply."""
     faults = [] if is_in_form(line, printed) else [f'prints what is no reply: {printed[:200]!r}']
     for each in printed.splitlines():
         match = SPAN.search(each)
-        if match and changes:
+        if match:
             start, stop = (60 * int(match[at]) + int(match[at + 1]) for at in (1, 3))
             if not start < stop <= 1440:
                 faults.append(f'shows a slot that ends before it begins: {each!r}')
@@ -74,9 +75,8 @@ def faults_of_reply(line, printed, batch, changes):
 
 def faults_of_question(line, rows):
     # who asks `init` of a database that is there asks whose it is
-    if line.startswith('init ') or do_numbers_agree(rows):
-        return []
-    return ['is answered where `meta` and `vector` contradict each other']
+    faults = [] if line.startswith('init ') or do_numbers_agree(rows) else ['is answered where `meta` and `vector` contradict each other']
+    return faults + ([] if are_within_limits(rows) else ['is answered where a row is beyond its limits'])
 
 
 def contents(rows):

@@ -10,8 +10,8 @@ reply and the rows behind it have to be those of oracle.py. What no replica has 
 - a question may be answered if it doesn't read what was turned, or if no row shows the turn that it compares with what it reads;
 - a command that changes may be done if no row at all shows the turn (unseen.py).
 
-Then too a reply has its form, no id is given out twice, no write's row is lost or written over, no command that changes shows a slot that ends before
-it begins, and no question is answered where `meta` and `vector` contradict each other (rules.py). Answers to questions that differ from those before the turn are
+Then too a reply has its form, no id is given out twice, no write's row is lost or written over, no slot is shown that ends before it begins, and no
+question is answered where `meta` and `vector` contradict each other, or a row is beyond its limits (rules.py, limits.py). Answers to questions that differ from those before the turn are
 counted, and `--shown` lists them. The last line counts what passed and failed.
 """
 
@@ -102,7 +102,7 @@ class Turned:
             return self.faults_of_replica(command, reply, rows), False
         if reply.status == 1:
             return [], False
-        faults = faults_of_reply(command.line, reply.printed, reply.batch, command.changes)
+        faults = faults_of_reply(command.line, reply.printed, reply.batch)
         if command.changes:
             faults += [] if is_unseen(self.turn, self.rows) else ['is done on rows that no replica has']
             return faults + faults_of_change(self.rows, rows, reply.printed), False

@@ -2,6 +2,7 @@
 alone says of a dropped write, choices that weren't taken, a place of the same slot, and this office's number."""
 
 import oracle
+from limits import are_within_limits
 from rules import do_numbers_agree
 from standing import FATES, named
 from stock import COLUMNS
@@ -50,7 +51,7 @@ def is_unseen(turn, rows):
     row = dict(zip(COLUMNS[turn.table], turn.row)) | {turn.column: turn.value}
     if (turn.table, turn.column) == ('meta', 'server'):
         return do_numbers_agree(rows) and 1 <= rows['meta'][0][2] <= SERVER
-    if turn.loose or turn.column not in (*ALONE.get(turn.table, ()), 'choices', 'place'):
+    if turn.loose or turn.column not in (*ALONE.get(turn.table, ()), 'choices', 'place') or not are_within_limits(rows):
         return False
     request = row['server'], row['n']
     if turn.column in ('choices', 'place'):

@@ -65,5 +65,5 @@ rows-preserved g c =
       moved.same_reference ∙ c.rows.invariant.0,
       moved.mode c.rows.invariant.1,
       one_done g.S.Store c.args.sql.now [] c.requires.plain Q Q first new.conn.now row c.in-Some.row.now c.in-Some.ensures
-          (λ rows all. all_more (IsShownAs g.R.StoredRow.form) rows c.in-Some.row.now c.in_ok-test-in-Some.ensures all) read,
+          (λ rows all. all_more (IsShownAs g.R.StoredRow.form) rows c.in-Some.row.now c.in_ok-test-in-Some.ensures.passes all) read,
     )
