@@ -1,4 +1,4 @@
-ghost use Rattle.std.specs.Prelude.{◌≡◌, map, filter, OnOk, IfOk, IfErr, Ok};
+ghost use Rattle.std.specs.Prelude.{◌≡◌, ◌<◌, ◌≤◌, map, filter, OnOk, IfOk, IfErr, Ok};
 ghost use Rattle.std.specs.List.{AllByRecursion};
 ghost use Rattle.std.specs.BTreeMap.{insert_entry};
 ghost use Rattle.mr_base.specs.Answers.{OrOutOfMemory};
@@ -7,7 +7,7 @@ ghost use Rattle.mr_replay.specs.declared.rows.Trace.TheVariants.{OfBooking};
 ghost use Rattle.mr_tables.specs.Boards.{booking_entry, error_entry, cancelled_entry, cancel_entry, is_void, put_entries, board_of, AreWithin, IsRowWithin};
 
 use crate::{BookingRow, CancelRow, CancelledRow, ErrorRow, Tables};
-use mr_base::{Day, MINUTES_OF_A_DAY, Refusal, RoomName, ServerId, Slot, Title, WriteId};
+use mr_base::{Day, MINUTES_OF_A_DAY, Refusal, RoomName, Slot, Title};
 use mr_replay::{Board, Row, Standing, Trace};
 use std::alloc::Global;
 
@@ -43,10 +43,8 @@ pub fn put_booking(board: &mut Board, alloc: Global, row: &BookingRow) -> Result
     ensures within { OnOk result (IsRowWithin row.now.n row.now.start row.now.stop) }
     ensures only { IsRowWithin row.now.n row.now.start row.now.stop → IfErr result (λ e. e ≡ Refusal.OutOfMemory) }
 {
-    let (id, slot) = place_of(row.server, row.n, row.day, row.start, row.stop)?;
-    let length = row.stop - row.start;
-    let row = row_with(alloc, &row.room, slot, length, &row.title, Standing::Booked)?;
-    board.put(id, row)
+    let told = row_of_booking(alloc, row)?;
+    board.put(row.id(), told)
 }
 
 /// Puts the rows of `errorlog` on the board. Refused if one is out of the limits.
@@ -66,17 +64,8 @@ fn put_error(board: &mut Board, alloc: Global, row: &ErrorRow) -> Result<(), Ref
     ensures within { OnOk result (IsRowWithin row.now.n row.now.start row.now.stop) }
     ensures only { IsRowWithin row.now.n row.now.start row.now.stop → IfErr result (λ e. e ≡ Refusal.OutOfMemory) }
 {
-    let (id, slot) = place_of(row.server, row.n, row.day, row.start, row.stop)?;
-    let length = row.stop - row.start;
-    let row = row_with(
-        alloc,
-        &row.room,
-        slot,
-        length,
-        &row.title,
-        Standing::InErrorLog,
-    )?;
-    board.put(id, row)
+    let told = row_of_error(alloc, row)?;
+    board.put(row.id(), told)
 }
 
 /// Puts the rows of `cancelled` on the board. Refused if one is out of the limits.
@@ -96,11 +85,8 @@ pub fn put_taken_back(board: &mut Board, alloc: Global, row: &CancelledRow) -> R
     ensures within { OnOk result (IsRowWithin row.now.n row.now.start row.now.stop) }
     ensures only { IsRowWithin row.now.n row.now.start row.now.stop → IfErr result (λ e. e ≡ Refusal.OutOfMemory) }
 {
-    let (id, slot) = place_of(row.server, row.n, row.day, row.start, row.stop)?;
-    let length = row.stop - row.start;
-    let standing = Standing::CancelledBy(row.by);
-    let row = row_with(alloc, &row.room, slot, length, &row.title, standing)?;
-    board.put(id, row)
+    let told = row_of_cancelled(alloc, row)?;
+    board.put(row.id(), told)
 }
 
 /// Puts those rows of `cancels` on the board that found nothing to take back.
@@ -120,32 +106,65 @@ fn put_cancel(board: &mut Board, alloc: Global, row: &CancelRow) -> Result<(), R
     ensures put { OnOk result (board.new ≡ insert_entry id_cmp board.old (cancel_entry row.now).0 (cancel_entry row.now).1) }
     ensures only { IfErr result (λ e. e ≡ Refusal.OutOfMemory) }
 {
-    let id = row.id();
-    let room = row.room.copy(alloc)?;
-    let trace = Trace::OfCancel { target: row.target };
-    board.put(id, Row { room, trace })
+    let told = row_of_cancel(alloc, row)?;
+    board.put(row.id(), told)
 }
 
-/// The id and the slot of a row. Refused if one is out of the limits.
-fn place_of(
-    server: ServerId,
-    n: u32,
-    day: Day,
-    start: u32,
-    stop: u32,
-) -> Result<(WriteId, Slot), Refusal>
-    ensures place { IfOk result (λ place. place ≡ (record { server = server; n = n }, record { day = day; start = start })) }
-    ensures within { OnOk result (IsRowWithin n start stop) }
-    ensures only { IfErr result (λ e. (e ≡ Refusal.Store) × (IsRowWithin n start stop → ⊥)) }
+/// What a row of `booking` tells on the board. Refused if its slot is out of the limits.
+pub(crate) fn row_of_booking(alloc: Global, row: &BookingRow) -> Result<Row, Refusal>
+    ensures row { IfOk result (λ told. told ≡ (booking_entry row.now).1) }
+    ensures within { OnOk result ((row.now.start < row.now.stop) × (row.now.stop ≤ 1440)) }
+    ensures only { row.now.start < row.now.stop → row.now.stop ≤ 1440 → IfErr result (λ e. e ≡ Refusal.OutOfMemory) }
+{
+    let slot = slot_in(row.day, row.start, row.stop)?;
+    let length = row.stop - row.start;
+    row_with(alloc, &row.room, slot, length, &row.title, Standing::Booked)
+}
+
+/// What a row of `errorlog` tells there. Refused if its slot is out of the limits.
+pub(crate) fn row_of_error(alloc: Global, row: &ErrorRow) -> Result<Row, Refusal>
+    ensures row { IfOk result (λ told. told ≡ (error_entry row.now).1) }
+    ensures within { OnOk result ((row.now.start < row.now.stop) × (row.now.stop ≤ 1440)) }
+    ensures only { row.now.start < row.now.stop → row.now.stop ≤ 1440 → IfErr result (λ e. e ≡ Refusal.OutOfMemory) }
+{
+    let slot = slot_in(row.day, row.start, row.stop)?;
+    let length = row.stop - row.start;
+    let standing = Standing::InErrorLog;
+    row_with(alloc, &row.room, slot, length, &row.title, standing)
+}
+
+/// What a row of `cancelled` tells there. Refused if its slot is out of the limits.
+pub(crate) fn row_of_cancelled(alloc: Global, row: &CancelledRow) -> Result<Row, Refusal>
+    ensures row { IfOk result (λ told. told ≡ (cancelled_entry row.now).1) }
+    ensures within { OnOk result ((row.now.start < row.now.stop) × (row.now.stop ≤ 1440)) }
+    ensures only { row.now.start < row.now.stop → row.now.stop ≤ 1440 → IfErr result (λ e. e ≡ Refusal.OutOfMemory) }
+{
+    let slot = slot_in(row.day, row.start, row.stop)?;
+    let length = row.stop - row.start;
+    let standing = Standing::CancelledBy(row.by);
+    row_with(alloc, &row.room, slot, length, &row.title, standing)
+}
+
+/// What a row of `cancels` tells there, if the cancel found nothing to take back.
+pub(crate) fn row_of_cancel(alloc: Global, row: &CancelRow) -> Result<Row, Refusal>
+    ensures { OrOutOfMemory result (Ok (cancel_entry row.now).1) }
+{
+    let room = row.room.copy(alloc)?;
+    let trace = Trace::OfCancel { target: row.target };
+    Ok(Row { room, trace })
+}
+
+/// The slot of a row. Refused unless it starts before it stops, by midnight.
+fn slot_in(day: Day, start: u32, stop: u32) -> Result<Slot, Refusal>
+    ensures slot { IfOk result (λ slot. slot ≡ record { day = day; start = start }) }
+    ensures within { OnOk result ((start < stop) × (stop ≤ 1440)) }
+    ensures only { IfErr result (λ e. (e ≡ Refusal.Store) × (start < stop → stop ≤ 1440 → ⊥)) }
 {
     if start >= stop || stop > MINUTES_OF_A_DAY {
         return Err(Refusal::Store);
     }
-    let Some(id) = WriteId::new(server, n) else {
-        return Err(Refusal::Store);
-    };
     match Slot::new(day, start) {
-        Ok(slot) => Ok((id, slot)),
+        Ok(slot) => Ok(slot),
         Err(_) => Err(Refusal::Store),
     }
 }
