@@ -114,7 +114,7 @@ impl Board {
     }
 
     /// Takes the row of this id away, if there is one.
-    pub(crate) fn remove(&mut self, id: WriteId)
+    pub fn remove(&mut self, id: WriteId)
         ensures { self.new ≡ remove_entry (same_id id) self.old }
     {
         if let Some(removed) = self.rows.remove(&id) {

@@ -8,5 +8,6 @@ pub mod Tallied
 pub mod Written
 pub mod Choices
 pub mod Boards
+pub mod BoardChanges
 pub mod Rise
 pub mod TableLaws

@@ -4,6 +4,7 @@
 
 ghost use Rattle.mr_tables.specs.TableLaws.{RowsAreWithin, RowsTellTheBoard};
 
+pub mod board_changes;
 pub mod boards;
 mod cancel_rows;
 mod change;
