@@ -1,121 +1,58 @@
-//! What a keeper answers a question by: each tests the rows of `meta` and `vector` together before it reads its own, each of which is tested by
+//! What a keeper answers a question by: the rows of `meta` and `vector` are tested together before others are read, each of which is tested by
 //! itself as it is read.
 
-ghost use Rattle.std.specs.Prelude.{◌≡◌, true, false, OnOk};
-ghost use Rattle.std.specs.List.Sorted.{IsPermutation};
+ghost use Rattle.std.specs.Prelude.{◌≡◌, true, false, IfOk, OnOk};
 ghost use Rattle.sqlite.specs.State.{HasCleanDisk};
 ghost use Rattle.sqlite.specs.Held.{state};
-ghost use Rattle.mr_store.specs.Picked.{picked_errors, picked_cancelled, picked_cancels, AreBookings, IsPlaceOf};
+ghost use Rattle.mr_store.specs.Answers.{IsAnswerTo, IsNamedAs};
 ghost use Rattle.mr_rows.specs.Database.{IsKept, tables_in};
 ghost use Rattle.mr_rows.specs.Reads.{ReadsKept};
 ghost use Rattle.mr_sql.specs.Numbers.{do_numbers_agree};
 
-use crate::answers;
+use crate::answers::{bookings_of, cancelled_of, cancels_of, errors_of, place_of, rooms_of};
 use crate::numbers::check_numbers;
-use mr_base::{Day, RoomName, WriteId};
-use mr_tables::{BookingRow, CancelRow, CancelledRow, ErrorRow, PlaceRow};
+use mr_store::{Answer, Question};
 use sqlite::{Alter, Connection, Error};
 use std::alloc::Global;
 
-/// The known rooms.
-pub(crate) fn rooms<S: Alter>(
+/// What the tables of this database answer to the question, if their numbers agree.
+pub(crate) fn query<S: Alter>(
     conn: &mut Connection<S>,
     alloc: Global,
-) -> Result<Vec<RoomName>, Error>
+    question: &Question<'_>,
+) -> Result<Answer, Error>
     requires autocommit { conn.old.in_transaction ≡ false }
     ensures autocommit { conn.new.in_transaction ≡ false }
     ensures reads { ReadsKept (state S.Store conn.old) (state S.Store conn.new) result
-        (λ rooms. IsPermutation (tables_in (state S.Store conn.old).now.trees).room rooms.items) }
+        (IsAnswerTo question.now (tables_in (state S.Store conn.old).now.trees)) }
+    ensures named { IfOk result (IsNamedAs question.now) }
     ensures numbers { HasCleanDisk (state S.Store conn.new) → IsKept (state S.Store conn.old)
         → OnOk result (do_numbers_agree (tables_in (state S.Store conn.old).now.trees) ≡ true) }
 {
     check_numbers(conn, alloc)?;
-    answers::rooms_of(conn, alloc)
+    answer(conn, alloc, question)
 }
 
-/// The bookings of a room, of a day or of all days, in the order of a calendar.
-pub(crate) fn bookings<S: Alter>(
+/// What the tables of this database answer to the question.
+fn answer<S: Alter>(
     conn: &mut Connection<S>,
     alloc: Global,
-    room: &RoomName,
-    day: Option<Day>,
-) -> Result<Vec<BookingRow>, Error>
+    question: &Question<'_>,
+) -> Result<Answer, Error>
     requires autocommit { conn.old.in_transaction ≡ false }
     ensures autocommit { conn.new.in_transaction ≡ false }
     ensures reads { ReadsKept (state S.Store conn.old) (state S.Store conn.new) result
-        (λ rows. AreBookings room.now day (tables_in (state S.Store conn.old).now.trees) rows.items) }
-    ensures numbers { HasCleanDisk (state S.Store conn.new) → IsKept (state S.Store conn.old)
-        → OnOk result (do_numbers_agree (tables_in (state S.Store conn.old).now.trees) ≡ true) }
+        (IsAnswerTo question.now (tables_in (state S.Store conn.old).now.trees)) }
+    ensures named { IfOk result (IsNamedAs question.now) }
 {
-    check_numbers(conn, alloc)?;
-    answers::bookings_of(conn, alloc, room, day)
-}
-
-/// The row of the write with this id, if it is of that room.
-pub(crate) fn place_of<S: Alter>(
-    conn: &mut Connection<S>,
-    alloc: Global,
-    room: &RoomName,
-    id: WriteId,
-) -> Result<Option<PlaceRow>, Error>
-    requires autocommit { conn.old.in_transaction ≡ false }
-    ensures autocommit { conn.new.in_transaction ≡ false }
-    ensures reads { ReadsKept (state S.Store conn.old) (state S.Store conn.new) result
-        (λ row. IsPlaceOf room.now id (tables_in (state S.Store conn.old).now.trees) row) }
-    ensures numbers { HasCleanDisk (state S.Store conn.new) → IsKept (state S.Store conn.old)
-        → OnOk result (do_numbers_agree (tables_in (state S.Store conn.old).now.trees) ≡ true) }
-{
-    check_numbers(conn, alloc)?;
-    answers::place_of(conn, alloc, room, id)
-}
-
-/// The error log's rows of a room.
-pub(crate) fn errors<S: Alter>(
-    conn: &mut Connection<S>,
-    alloc: Global,
-    room: &RoomName,
-) -> Result<Vec<ErrorRow>, Error>
-    requires autocommit { conn.old.in_transaction ≡ false }
-    ensures autocommit { conn.new.in_transaction ≡ false }
-    ensures reads { ReadsKept (state S.Store conn.old) (state S.Store conn.new) result
-        (λ rows. IsPermutation (picked_errors room.now (tables_in (state S.Store conn.old).now.trees)) rows.items) }
-    ensures numbers { HasCleanDisk (state S.Store conn.new) → IsKept (state S.Store conn.old)
-        → OnOk result (do_numbers_agree (tables_in (state S.Store conn.old).now.trees) ≡ true) }
-{
-    check_numbers(conn, alloc)?;
-    answers::errors_of(conn, alloc, room)
-}
-
-/// The rows of a room's bookings that a cancel took back.
-pub(crate) fn cancelled<S: Alter>(
-    conn: &mut Connection<S>,
-    alloc: Global,
-    room: &RoomName,
-) -> Result<Vec<CancelledRow>, Error>
-    requires autocommit { conn.old.in_transaction ≡ false }
-    ensures autocommit { conn.new.in_transaction ≡ false }
-    ensures reads { ReadsKept (state S.Store conn.old) (state S.Store conn.new) result
-        (λ rows. IsPermutation (picked_cancelled room.now (tables_in (state S.Store conn.old).now.trees)) rows.items) }
-    ensures numbers { HasCleanDisk (state S.Store conn.new) → IsKept (state S.Store conn.old)
-        → OnOk result (do_numbers_agree (tables_in (state S.Store conn.old).now.trees) ≡ true) }
-{
-    check_numbers(conn, alloc)?;
-    answers::cancelled_of(conn, alloc, room)
-}
-
-/// The rows of a room's cancels.
-pub(crate) fn cancels<S: Alter>(
-    conn: &mut Connection<S>,
-    alloc: Global,
-    room: &RoomName,
-) -> Result<Vec<CancelRow>, Error>
-    requires autocommit { conn.old.in_transaction ≡ false }
-    ensures autocommit { conn.new.in_transaction ≡ false }
-    ensures reads { ReadsKept (state S.Store conn.old) (state S.Store conn.new) result
-        (λ rows. IsPermutation (picked_cancels room.now (tables_in (state S.Store conn.old).now.trees)) rows.items) }
-    ensures numbers { HasCleanDisk (state S.Store conn.new) → IsKept (state S.Store conn.old)
-        → OnOk result (do_numbers_agree (tables_in (state S.Store conn.old).now.trees) ≡ true) }
-{
-    check_numbers(conn, alloc)?;
-    answers::cancels_of(conn, alloc, room)
+    match *question {
+        Question::Rooms => Ok(Answer::Rooms(rooms_of(conn, alloc)?)),
+        Question::Bookings(room, day) => {
+            Ok(Answer::Bookings(bookings_of(conn, alloc, room, day)?))
+        }
+        Question::PlaceOf(room, id) => Ok(Answer::PlaceOf(place_of(conn, alloc, room, id)?)),
+        Question::Errors(room) => Ok(Answer::Errors(errors_of(conn, alloc, room)?)),
+        Question::Cancelled(room) => Ok(Answer::Cancelled(cancelled_of(conn, alloc, room)?)),
+        Question::Cancels(room) => Ok(Answer::Cancels(cancels_of(conn, alloc, room)?)),
+    }
 }

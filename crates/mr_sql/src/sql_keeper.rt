@@ -18,12 +18,12 @@ use crate::adopt::{adopt_tables, recover, retaken};
 use crate::create::create;
 use crate::faults::refusal_of;
 use crate::{load, questions};
-use mr_base::{Day, Refusal, RoomName, ServerId, WriteId};
+use mr_base::{Refusal, ServerId};
 use mr_part::{Part, Scope};
 use mr_replica::Desk;
 use mr_rows::changes;
-use mr_store::{Fault, Keeper};
-use mr_tables::{BookingRow, CancelRow, CancelledRow, Change, ErrorRow, MetaRow, PlaceRow, Tables};
+use mr_store::{Answer, Fault, Keeper, Question};
+use mr_tables::{Change, MetaRow, Tables};
 use sqlite::{Alter, Connection, Error, ErrorCode, MemStore};
 use std::alloc::Global;
 use std::marker::Model;
@@ -99,43 +99,8 @@ impl<S: Alter> Keeper for SqlKeeper<S> {
         }
     }
 
-    fn rooms(&mut self) -> Result<Vec<RoomName>, Fault> {
-        match questions::rooms(&mut self.conn, self.alloc) {
-            Ok(value) => Ok(value),
-            Err(error) => Err(fault_of(&mut self.failures, error)),
-        }
-    }
-
-    fn bookings(&mut self, room: &RoomName, day: Option<Day>) -> Result<Vec<BookingRow>, Fault> {
-        match questions::bookings(&mut self.conn, self.alloc, room, day) {
-            Ok(value) => Ok(value),
-            Err(error) => Err(fault_of(&mut self.failures, error)),
-        }
-    }
-
-    fn place_of(&mut self, room: &RoomName, id: WriteId) -> Result<Option<PlaceRow>, Fault> {
-        match questions::place_of(&mut self.conn, self.alloc, room, id) {
-            Ok(value) => Ok(value),
-            Err(error) => Err(fault_of(&mut self.failures, error)),
-        }
-    }
-
-    fn errors(&mut self, room: &RoomName) -> Result<Vec<ErrorRow>, Fault> {
-        match questions::errors(&mut self.conn, self.alloc, room) {
-            Ok(value) => Ok(value),
-            Err(error) => Err(fault_of(&mut self.failures, error)),
-        }
-    }
-
-    fn cancelled(&mut self, room: &RoomName) -> Result<Vec<CancelledRow>, Fault> {
-        match questions::cancelled(&mut self.conn, self.alloc, room) {
-            Ok(value) => Ok(value),
-            Err(error) => Err(fault_of(&mut self.failures, error)),
-        }
-    }
-
-    fn cancels(&mut self, room: &RoomName) -> Result<Vec<CancelRow>, Fault> {
-        match questions::cancels(&mut self.conn, self.alloc, room) {
+    fn query(&mut self, question: &Question<'_>) -> Result<Answer, Fault> {
+        match questions::query(&mut self.conn, self.alloc, question) {
             Ok(value) => Ok(value),
             Err(error) => Err(fault_of(&mut self.failures, error)),
         }

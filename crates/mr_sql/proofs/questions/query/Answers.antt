@@ -1,0 +1,20 @@
+use Rattle.std.proofs.Common.{◌≡◌, true, rules}
+use Rattle.sqlite.specs.Held.{state}
+use Rattle.mr_store.specs.Answers.{IsAnswerTo}
+use Rattle.mr_rows.specs.Database.{tables_in}
+use Rattle.mr_sql.specs.Numbers.{do_numbers_agree}
+use Rattle.mr_sql.proofs.QuestionLemmas.{asked_with}
+use Rattle.mr_sql.proofs.questions.query.Goals as goal
+
+pub returns-in_err-check_numbers-clause-reads : goal.returns-in_err-check_numbers-clause-reads
+returns-in_err-check_numbers-clause-reads g c = let read = c.check_numbers.ensures.reads in (read.0, read.1, λ clean kept. (search rules, search rules))
+
+pub returns-clause-reads : goal.returns-clause-reads
+returns-clause-reads g c =
+    (asked_with (state g.S.Store c.args.conn.now) (state g.S.Store c.check_numbers.new.conn) (state g.S.Store c.answer.new.conn) tt
+    (do_numbers_agree (tables_in (state g.S.Store c.args.conn.now).now.trees) ≡ true) c.answer.result (λ db answer. IsAnswerTo c.args.question.now (tables_in db.trees) answer) c.in_ok-check_numbers.ensures.reads c.answer.ensures.reads).0
+
+pub returns-clause-numbers : goal.returns-clause-numbers
+returns-clause-numbers g c =
+    (asked_with (state g.S.Store c.args.conn.now) (state g.S.Store c.check_numbers.new.conn) (state g.S.Store c.answer.new.conn) tt
+    (do_numbers_agree (tables_in (state g.S.Store c.args.conn.now).now.trees) ≡ true) c.answer.result (λ db answer. IsAnswerTo c.args.question.now (tables_in db.trees) answer) c.in_ok-check_numbers.ensures.reads c.answer.ensures.reads).1
