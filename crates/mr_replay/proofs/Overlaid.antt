@@ -2,6 +2,7 @@
 use Rattle.std.proofs.Common.{◌≡◌, ◌∙◌, Result, Ok, Err, OnOk, OnErr, Bool, true, false, not, cond, ◌&&◌, ◌||◌, List, [], ◌∷◌, Option, Some, None, ℕ, ap, refl, sym, subst}
 use Rattle.std.specs.declared.cmp.Ordering.TheVariants.{Less, Equal, Greater}
 use Rattle.std.specs.Ordering.{is_eq, match_ordering}
+use Rattle.std.specs.Option.{option_or}
 use Rattle.std.specs.List.{AllByRecursion, list_any}
 use Rattle.std.specs.List.Sorted.{IsStrictlySortedBy}
 use Rattle.std.specs.Map.{keys_of, values_of, lookup, remove_entry}
@@ -25,34 +26,30 @@ use Rattle.mr_model.proofs.Members.{same_id_from}
 
 -- ---- look-ups and the order
 
-abbrev pub or_else : Option Row → Option Row → Option Row
-or_else None o = o
-or_else (Some row) o = Some row
+option_or-cond : (s : Bool) (row : Row) (o p : Option Row) → cond s (Some row) (option_or o p) ≡ option_or (cond s (Some row) o) p
+option_or-cond true row o p = refl
+option_or-cond false row o p = refl
 
-or_else-cond : (s : Bool) (row : Row) (o p : Option Row) → cond s (Some row) (or_else o p) ≡ or_else (cond s (Some row) o) p
-or_else-cond true row o p = refl
-or_else-cond false row o p = refl
-
-pub row_at-overlaid : (base own : Rows) (q : Id) → row_at (overlaid base own) q ≡ or_else (row_at own q) (row_at base q)
+pub row_at-overlaid : (base own : Rows) (q : Id) → row_at (overlaid base own) q ≡ option_or (row_at own q) (row_at base q)
 row_at-overlaid base [] q = refl
 row_at-overlaid base (e ∷ es) q =
-    row_at-put (overlaid base es) e.0 e.1 q ∙ ap (cond (same_id q e.0) (Some e.1)) (row_at-overlaid base es q) ∙ or_else-cond (same_id q e.0) e.1 (row_at es q) (row_at base q)
+    row_at-put (overlaid base es) e.0 e.1 q ∙ ap (cond (same_id q e.0) (Some e.1)) (row_at-overlaid base es q) ∙ option_or-cond (same_id q e.0) e.1 (row_at es q) (row_at base q)
 
 pub in_order-overlaid : (base own : Rows) → IsInOrder base → IsInOrder (overlaid base own)
 in_order-overlaid base [] h = h
 in_order-overlaid base (e ∷ es) h = in_order-put (overlaid base es) e.0 e.1 (in_order-overlaid base es h)
 
 -- what is seen under an id
-pub row_at-seen : (base own : Rows) (hidden : BTreeSet Id) (q : Id) → row_at (overlaid (shown hidden base) own) q ≡ or_else (row_at own q) (cond (is_hidden hidden q) None (row_at base q))
-row_at-seen base own hidden q = row_at-overlaid (shown hidden base) own q ∙ ap (or_else (row_at own q)) (row_at-shown hidden base q)
+pub row_at-seen : (base own : Rows) (hidden : BTreeSet Id) (q : Id) → row_at (overlaid (shown hidden base) own) q ≡ option_or (row_at own q) (cond (is_hidden hidden q) None (row_at base q))
+row_at-seen base own hidden q = row_at-overlaid (shown hidden base) own q ∙ ap (option_or (row_at own q)) (row_at-shown hidden base q)
 
 -- ---- a row put in, and one hidden
 
-putting : (s h : Bool) (row : Row) (o x : Option Row) → or_else (cond s (Some row) o) (cond (cond s true h) None x) ≡ cond s (Some row) (or_else o (cond h None x))
+putting : (s h : Bool) (row : Row) (o x : Option Row) → option_or (cond s (Some row) o) (cond (cond s true h) None x) ≡ cond s (Some row) (option_or o (cond h None x))
 putting true h row o x = refl
 putting false h row o x = refl
 
-taking : (s h : Bool) (o x : Option Row) → or_else (cond s None o) (cond (cond s true h) None x) ≡ cond s None (or_else o (cond h None x))
+taking : (s h : Bool) (o x : Option Row) → option_or (cond s None o) (cond (cond s true h) None x) ≡ cond s None (option_or o (cond h None x))
 taking true h o x = refl
 taking false h o x = refl
 
@@ -63,14 +60,14 @@ module _ (base own : Rows) (old new : BTreeSet Id) (i : Id) (can : CanOverlay ba
   pub seen-put : (row : Row) → overlaid (shown new base) (insert_entry id_cmp own i row) ≡ insert_entry id_cmp (overlaid (shown old base) own) i row
   seen-put row =
       same_rows _ _ (in_order-overlaid (shown new base) (insert_entry id_cmp own i row) (in_order-shown new base can.base_order)) (in_order-put (overlaid (shown old base) own) i row ordered) (λ q.
-      row_at-seen base (insert_entry id_cmp own i row) new q ∙ (λ t. or_else (row_at-put own i row q t) (cond (more q t) None (row_at base q)))
+      row_at-seen base (insert_entry id_cmp own i row) new q ∙ (λ t. option_or (row_at-put own i row q t) (cond (more q t) None (row_at base q)))
       ∙ putting (same_id q i) (is_hidden old q) row (row_at own q) (row_at base q)
       ∙ ap (cond (same_id q i) (Some row)) (sym (row_at-seen base own old q)) ∙ sym (row_at-put (overlaid (shown old base) own) i row q))
 
   pub seen-removed : overlaid (shown new base) (remove_entry (same_id i) own) ≡ remove_entry (same_id i) (overlaid (shown old base) own)
   seen-removed =
       same_rows _ _ (in_order-overlaid (shown new base) (remove_entry (same_id i) own) (in_order-shown new base can.base_order)) (in_order-removed (overlaid (shown old base) own) i ordered) (λ q.
-      row_at-seen base (remove_entry (same_id i) own) new q ∙ (λ t. or_else (row_at-removed own i q can.own_order t) (cond (more q t) None (row_at base q)))
+      row_at-seen base (remove_entry (same_id i) own) new q ∙ (λ t. option_or (row_at-removed own i q can.own_order t) (cond (more q t) None (row_at base q)))
       ∙ taking (same_id q i) (is_hidden old q) (row_at own q) (row_at base q)
       ∙ ap (cond (same_id q i) None) (sym (row_at-seen base own old q)) ∙ sym (row_at-removed (overlaid (shown old base) own) i q ordered))
 
@@ -131,7 +128,7 @@ unfolding IsStrictlySortedBy
 any-overlaid p base [] h apart = refl
 any-overlaid p base (e ∷ es) h apart =
     let own_new = first_absent e es h in
-    let new : row_at (overlaid base es) e.0 ≡ None = row_at-overlaid base es e.0 ∙ ap (λ o. or_else o (row_at base e.0)) own_new ∙ apart.0 in
+    let new : row_at (overlaid base es) e.0 ≡ None = row_at-overlaid base es e.0 ∙ ap (λ o. option_or o (row_at base e.0)) own_new ∙ apart.0 in
     any-put p (overlaid base es) e.0 e.1 (subst (λ (f : Id → Id → Bool). lookup (f e.0) (overlaid base es) ≡ None) (sym at_is) new)
     ∙ ap (λ t. p e.1 || t) (any-overlaid p base es h.1 apart.1) ∙ assoc-or (p e.1) (list_any p (values_of es)) (list_any p (values_of base))
 
