@@ -28,7 +28,7 @@ use Rattle.mr_tables.proofs.Summaries.{summary-write, summary-commit}
 use Rattle.mr_part.specs.declared.kept_writes.NumberedWrite.{NumberedWrite}
 use Rattle.mr_part.specs.Candidate.{write_with_id}
 use Rattle.mr_part.specs.KeptWrites.{logged_at, has_at, with_number, numbered_of}
-use Rattle.mr_part.specs.Sets.{has_room}
+use Rattle.mr_replay.specs.Seen.{has_room}
 use Rattle.mr_part.specs.declared.candidate.Candidate.{Candidate}
 use Rattle.mr_part.specs.Taken.{ShowsTaken, CoversScope}
 use Rattle.mr_part.proofs.JudgingKept.{inside_named}

@@ -19,7 +19,8 @@ use Rattle.mr_model.proofs.MembersAlike.{bool_same}
 use Rattle.mr_replay.proofs.IdKeys.{at_is}
 use Rattle.mr_tables.proofs.Naming.{before-cmp}
 use Rattle.mr_tables.proofs.Putting.{name_order}
-use Rattle.mr_part.specs.Sets.{has_id, has_room, IsSetOf}
+use Rattle.mr_part.specs.Sets.{has_id, IsSetOf}
+use Rattle.mr_replay.specs.Seen.{has_room}
 
 -- what is added to a set so far, beside what is left
 pub added_more : (new old added left all : Bool) → new ≡ (added || old) → (old || (added || left)) ≡ all → (new || left) ≡ all

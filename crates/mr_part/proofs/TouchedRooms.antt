@@ -10,7 +10,8 @@ use Rattle.mr_model.specs.Writes.{Id, Write, same_id}
 use Rattle.mr_model.specs.Exchange.{Item, W, C}
 use Rattle.mr_model.proofs.CommittedPlaces.{same_id_comm}
 use Rattle.mr_part.specs.declared.touched.Touched.{Touched}
-use Rattle.mr_part.specs.Sets.{has_id, has_room, IsSetOf, AreSameRooms}
+use Rattle.mr_part.specs.Sets.{has_id, IsSetOf, AreSameRooms}
+use Rattle.mr_replay.specs.Seen.{has_room}
 use Rattle.mr_part.specs.Touched.{commits_id, writes_in, IsTouchedBy}
 use Rattle.mr_part.proofs.Sets.{set_of_keys}
 

@@ -6,7 +6,8 @@ use Rattle.mr_model.specs.Queries.{log_id}
 use Rattle.mr_model.specs.Scopes.{is_tentative, rooms_of_item}
 use Rattle.mr_part.specs.declared.scope_batch.BatchScope.{BatchScope}
 use Rattle.mr_part.specs.Named.{has_named, IsNamedBy}
-use Rattle.mr_part.specs.Sets.{has_room, IsSetOf}
+use Rattle.mr_part.specs.Sets.{IsSetOf}
+use Rattle.mr_replay.specs.Seen.{has_room}
 use Rattle.mr_part.specs.Tails.{has_place, IsTail}
 
 -- whether the row is named, or tentative, in the tail and of a room that is touched

@@ -13,8 +13,9 @@ use Rattle.mr_part.specs.declared.scope_logs.LogTest.TheVariants as test
 use Rattle.mr_part.specs.declared.wanted.Wanted.{Wanted}
 use Rattle.mr_part.specs.BatchScopes.{has_log}
 use Rattle.mr_part.specs.KeptRows.{kept_row}
-use Rattle.mr_part.specs.Parts.{HasRowsInScope, kept_in}
-use Rattle.mr_part.specs.Sets.{has_id, has_room, IsSetOf}
+use Rattle.mr_part.specs.Parts.{HasRowsButBookings, kept_in}
+use Rattle.mr_part.specs.Sets.{has_id, IsSetOf}
+use Rattle.mr_replay.specs.Seen.{has_room}
 
 -- ---- rows of log
 
@@ -73,4 +74,4 @@ taken_wanted _ t = []
 -- what a command of this scope needs of these tables: of a replica's rows in scope the kept writes are those of the replica
 pub record IsWanted (wanted : Wanted) (s : Scope) (t : Tables) : Type 0 where
   pub bookings_are : IsBookingTest wanted.bookings (rooms_wanted s t) (target_wanted s) (taken_wanted s t)
-  pub kept_are : (a : Replica) → IsReplica a → HasRowsInScope t s a → wanted.kept.items ≡ map (kept_row a) (kept_in s a)
+  pub kept_are : (a : Replica) → IsReplica a → HasRowsButBookings t s a → wanted.kept.items ≡ map (kept_row a) (kept_in s a)

@@ -5,7 +5,8 @@ use Rattle.mr_model.specs.Texts.{Text}
 use Rattle.mr_model.specs.Writes.{Id, same_id}
 use Rattle.mr_model.specs.Exchange.{Item, W, C}
 use Rattle.mr_part.specs.declared.touched.Touched.{Touched}
-use Rattle.mr_part.specs.Sets.{has_id, has_room}
+use Rattle.mr_part.specs.Sets.{has_id}
+use Rattle.mr_replay.specs.Seen.{has_room}
 
 -- whether the item is a commit of this id that is not known yet, where so many are
 abbrev pub commits_id : ℕ → Id → Item → Bool

@@ -13,7 +13,7 @@ ghost use Rattle.mr_tables.specs.Summary.{summary_of, noted_write, noted_commit}
 ghost use Rattle.mr_part.specs.Answering.{NeverStore, nothing_taken};
 ghost use Rattle.mr_part.specs.KeptRows.{kept_row};
 ghost use Rattle.mr_part.specs.KeptWrites.{logged_at, has_at, with_number};
-ghost use Rattle.mr_part.specs.Sets.{has_room};
+ghost use Rattle.mr_replay.specs.Seen.{has_room};
 ghost use Rattle.mr_part.specs.Taken.{CoversScope, ShowsTaken, ShowsPicked, TakesItem, TakesItems, TakenPicked, logged_write_verdict, logged_commit_verdict};
 
 use crate::judge::{judge_commit, judge_write};

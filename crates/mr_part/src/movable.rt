@@ -8,7 +8,8 @@ ghost use Rattle.mr_model.specs.Moving.{again};
 ghost use Rattle.mr_base.specs.Batches.{item_of};
 ghost use Rattle.mr_part.specs.KeptRows.{row_writes};
 ghost use Rattle.mr_part.specs.Moves.{IsMoving, ShowsMoves, rooms_named, moves_in, moves_row, is_anew};
-ghost use Rattle.mr_part.specs.Sets.{has_id, has_room, IsSetOf};
+ghost use Rattle.mr_part.specs.Sets.{has_id, IsSetOf};
+ghost use Rattle.mr_replay.specs.Seen.{has_room};
 ghost use Rattle.mr_part.specs.Tails.{IsTail};
 
 use crate::kept_rows::KeptRow;

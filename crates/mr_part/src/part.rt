@@ -1,19 +1,20 @@
 use crate::kept_rows::KeptRow;
 use mr_base::RoomName;
-use mr_replay::Board;
+use mr_replay::SeenBoard;
 use mr_tables::summary::Summary;
 use std::alloc::Global;
 use std::marker::Model;
 
 /// The rows of a replica's tables that one command needs, as values: its numbers and its rooms; the kept writes in scope in the
-/// order of execution; and a board of the bookings in scope, be they booked, logged or cancelled. It is read for one call: what the call changes is the tables.
+/// order of execution; and a board of the bookings in scope, be they booked, logged or cancelled, which is its own or shared. It is
+/// read for one call: what the call changes is the tables.
 #[derive(Drop)]
 pub struct Part {
     pub(crate) alloc: Global,
     pub(crate) summary: Summary,
     pub(crate) rooms: Vec<RoomName>,
     pub(crate) kept: Vec<KeptRow>,
-    pub(crate) board: Board,
+    pub(crate) board: SeenBoard,
 }
 
 impl Model for Part {

@@ -12,12 +12,12 @@ use crate::room_moves::{MovesOfRooms, replayed_in_rooms};
 use crate::room_sets::unknown_rooms;
 use crate::targets::{moved_targets, takers};
 use mr_base::{Refusal, RoomName, Write};
-use mr_replay::{Board, UndoRow};
+use mr_replay::{Overlay, SeenBoard, UndoRow};
 use mr_tables::Change;
 use mr_tables::summary::Summary;
 use std::alloc::Global;
 
-/// What a batch changes in the tables that leads from these numbers and known rooms to what is reached: on the board, which has the
+/// What a batch changes in the tables that leads from these numbers and known rooms to what is reached: over the board, which has the
 /// bookings that it needs, these executions are undone, and these writes are executed, the new commits first, room by room. A write that
 /// gets the place and the number that it had keeps its row in the log, and isn't put; a booking that they cancel is put alone, if
 /// another cancel took that back before.
@@ -25,7 +25,7 @@ pub(crate) fn moved(
     alloc: Global,
     old: &Summary,
     known: &[RoomName],
-    board: Board,
+    board: SeenBoard,
     reached: &Reached,
     undone: &[UndoRow],
     in_rooms: MovesOfRooms,
@@ -36,7 +36,7 @@ pub(crate) fn moved(
     ensures only { IfErr result (λ e. e ≡ Refusal.OutOfMemory) }
 {
     let was = takers(alloc, &board, again)?;
-    let mut board = board;
+    let mut board = Overlay::over(board);
     let rows = replayed_in_rooms(alloc, &mut board, in_rooms, again)?;
     let news = reached.summary.commits.saturating_sub(old.commits);
     let changed = changed_of(alloc, undone, news, again, &rows)?;

@@ -5,8 +5,9 @@ ghost use Rattle.mr_tables.specs.Written.{meta_of, changed_tallies as rows_chang
 ghost use Rattle.mr_part.specs.Placing.{with_places_put, board_place, TraceEnds, TargetEnds, canceller_on, row_canceller, cancellers_on, is_booking_trace, has_booking, taken_row, taken_rows, booking_at};
 ghost use Rattle.mr_replay.specs.Rows.{target_if_done as taken_back_by};
 
+use crate::board_rows::BoardRows;
 use mr_base::{MINUTES_OF_A_DAY, Refusal, RoomName, Slot, Title, Write, WriteId};
-use mr_replay::{Board, Place, Row, Standing, Trace, UndoRow};
+use mr_replay::{Overlay, Place, Row, SeenBoard, Standing, Trace, UndoRow};
 use mr_tables::summary::Summary;
 use mr_tables::vector::changed_tallies;
 use mr_tables::written::{put_row, written};
@@ -92,7 +93,7 @@ fn booking_row(
 pub fn taken_rows(
     alloc: Global,
     summary: &Summary,
-    board: &Board,
+    board: &SeenBoard,
     undo: UndoRow,
 ) -> Result<Vec<PlaceRow>, Refusal>
     ensures rows { IfOk result (λ rows. TargetEnds board.now undo.target → map place_row_of rows.items ≡ taken_rows summary.now.tallies board.now undo) }
@@ -148,12 +149,12 @@ fn push_taken(
 // ---- cancels
 
 /// The cancels that took these writes back, as the board tells them.
-pub fn cancellers(
+pub(crate) fn cancellers<B: BoardRows>(
     alloc: Global,
-    board: &Board,
+    board: &B,
     writes: &[Write],
 ) -> Result<Vec<Option<WriteId>>, Refusal>
-    ensures cancellers { IfOk result (λ bys. bys.items ≡ cancellers_on board.now writes.now) }
+    ensures cancellers { IfOk result (λ bys. bys.items ≡ cancellers_on (B.rows board.now) writes.now) }
     ensures only { IfErr result (λ e. e ≡ Refusal.OutOfMemory) }
 {
     let mut bys = Vec::new(alloc);
@@ -170,7 +171,7 @@ pub fn rewritten(
     old: &Summary,
     summary: &Summary,
     rooms: Vec<RoomName>,
-    board: &Board,
+    board: &Overlay,
     writes: &[Write],
     rows: &[UndoRow],
 ) -> Result<Change, Refusal>
@@ -208,7 +209,7 @@ pub(crate) fn canceller_on(kept: &Trace) -> Option<WriteId>
 }
 
 /// Whether the board has a booking of this room with this id.
-pub fn has_booking(board: &Board, room: &RoomName, id: WriteId) -> bool
+pub fn has_booking(board: &SeenBoard, room: &RoomName, id: WriteId) -> bool
     ensures { result ≡ has_booking board.now room.now id }
 {
     match board.row(id) {

@@ -17,7 +17,7 @@ use crate::room_sets::RoomSet;
 use crate::rows_by_id::rows_in_order;
 use crate::tail::Tail;
 use mr_base::{Refusal, RoomName, Write};
-use mr_replay::{Board, UndoRow};
+use mr_replay::{Overlay, UndoRow};
 use std::alloc::Global;
 use std::collections::BTreeMap;
 
@@ -31,11 +31,11 @@ pub struct RoomMove {
 /// The moves of rooms, by their names: so a write that moves costs a logarithm, however many rooms there are.
 pub type MovesOfRooms = BTreeMap<RoomName, RoomMove>;
 
-/// Undoes on the board what is undone in rooms, and executes these writes, room by room: each room's executions are undone, and its
+/// Undoes over a board what is undone in rooms, and executes these writes, room by room: each room's executions are undone, and its
 /// writes are executed in their place. The answer has what undoes these writes, in their order.
 pub fn replayed_in_rooms(
     alloc: Global,
-    board: &mut Board,
+    board: &mut Overlay,
     undone: MovesOfRooms,
     again: &[Write],
 ) -> Result<Vec<UndoRow>, Refusal>
@@ -53,7 +53,7 @@ pub fn replayed_in_rooms(
 /// Undoes and executes in each of the rooms what moves there. The answer has the rows room by room.
 fn replay_rooms(
     alloc: Global,
-    board: &mut Board,
+    board: &mut Overlay,
     moves: MovesOfRooms,
 ) -> Result<Vec<UndoRow>, Refusal>
     ensures board { OnOk result (board.new ≡ board_after_moves moves.entries board.old) }
@@ -62,8 +62,8 @@ fn replay_rooms(
     ensures only { IfErr result (λ e. e ≡ Refusal.OutOfMemory) }
 {
     let mut done = Vec::new(alloc);
-    for (room, one) in moves {
-        let mut rows = board.replay_room(&room, &one.undone, &one.again)?;
+    for (_, one) in moves {
+        let mut rows = board.replay(&one.undone, &one.again)?;
         done.append(&mut rows)?;
     }
     Ok(done)

@@ -4,7 +4,8 @@ ghost use Rattle.std.specs.Cmp.Lexicographic.{slice_cmp};
 ghost use Rattle.std.specs.Ordering.{nat_cmp};
 ghost use Rattle.mr_model.specs.Texts.{Text};
 ghost use Rattle.mr_tables.specs.Rooms.{rooms_beside};
-ghost use Rattle.mr_part.specs.Sets.{has_room, IsSetOf};
+ghost use Rattle.mr_part.specs.Sets.{IsSetOf};
+ghost use Rattle.mr_replay.specs.Seen.{has_room};
 
 use mr_base::{Refusal, RoomName};
 use std::alloc::Global;

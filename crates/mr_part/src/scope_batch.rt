@@ -5,7 +5,8 @@ ghost use Rattle.mr_model.specs.Scopes.{rooms_of_item};
 ghost use Rattle.mr_model.specs.Queries.{log_id};
 ghost use Rattle.mr_base.specs.Batches.{item_of};
 ghost use Rattle.mr_part.specs.BatchScopes.{has_log, IsBatchScope};
-ghost use Rattle.mr_part.specs.Sets.{has_id, has_room, IsSetOf};
+ghost use Rattle.mr_part.specs.Sets.{has_id, IsSetOf};
+ghost use Rattle.mr_replay.specs.Seen.{has_room};
 
 use crate::named::Named;
 use crate::room_sets::RoomSet;

@@ -3,7 +3,7 @@ ghost use Rattle.std.specs.List.{cons_option};
 ghost use Rattle.std.specs.Option.{option_copied};
 ghost use Rattle.mr_model.specs.Dropped.{Has};
 ghost use Rattle.mr_model.specs.Writes.{Write as WriteOfRoom};
-ghost use Rattle.mr_replay.specs.Bookings.{is_taken, if_taken};
+ghost use Rattle.mr_replay.specs.Bookings.{if_taken};
 ghost use Rattle.mr_replay.specs.Holds.{if_of};
 ghost use Rattle.mr_replay.specs.Rows.{Rows};
 ghost use Rattle.mr_tables.specs.Cells.{place_row_of};
@@ -12,7 +12,7 @@ ghost use Rattle.mr_part.specs.Targets.{aimed_at, taken_by, same_by, row_if_move
 
 use crate::placing::{canceller_on, place_row_on};
 use mr_base::{Action, Refusal, RoomName, Write, WriteId};
-use mr_replay::{Board, Row, Standing, Trace};
+use mr_replay::{Overlay, Row, SeenBoard};
 use mr_tables::PlaceRow;
 use mr_tables::summary::Summary;
 use std::alloc::Global;
@@ -20,7 +20,7 @@ use std::alloc::Global;
 /// For each of these writes, the cancel that took back what the write cancels, as the board tells it.
 pub fn takers(
     alloc: Global,
-    board: &Board,
+    board: &SeenBoard,
     writes: &[Write],
 ) -> Result<Vec<Option<WriteId>>, Refusal>
     ensures takers { IfOk result (λ takers. takers.items ≡ map (taken_by board.now) writes.now) }
@@ -34,7 +34,7 @@ pub fn takers(
 }
 
 /// The cancel that took back what the write cancels.
-fn taker(board: &Board, write: &Write) -> Option<WriteId>
+fn taker(board: &SeenBoard, write: &Write) -> Option<WriteId>
     ensures { result ≡ taken_by board.now write.now }
 {
     let Action::Cancels(target) = &write.action else {
@@ -60,7 +60,7 @@ fn if_of<'a>(row: Option<&'a Row>, room: &RoomName) -> Option<&'a Row>
 pub fn moved_targets(
     alloc: Global,
     summary: &Summary,
-    board: &Board,
+    board: &Overlay,
     writes: &[Write],
     was: &[Option<WriteId>],
 ) -> Result<Vec<PlaceRow>, Refusal>
@@ -81,7 +81,7 @@ fn push_if_moved(
     rows: &mut Vec<PlaceRow>,
     alloc: Global,
     summary: &Summary,
-    board: &Board,
+    board: &Overlay,
     write: &Write,
     was: Option<WriteId>,
 ) -> Result<(), Refusal>
@@ -112,20 +112,10 @@ fn row_if_moved(
     ensures row { IfOk result (λ place. RowEnds (if_taken (Some row.now)) → cons_option (option_map place_row_of place) [] ≡ row_if_moved summary.now.tallies was target (Some row.now)) }
     ensures only { IfErr result (λ e. e ≡ Refusal.OutOfMemory) }
 {
-    if !is_taken(&row.trace) || is_same(was, canceller_on(&row.trace)) {
+    if !row.trace.is_taken() || is_same(was, canceller_on(&row.trace)) {
         return Ok(None);
     }
     place_row_on(alloc, summary, target, row)
-}
-
-/// Whether it is a booking that took its slot, be it taken back or not.
-fn is_taken(kept: &Trace) -> bool
-    ensures { result ≡ is_taken kept.now }
-{
-    match kept {
-        Trace::OfBooking { standing, .. } => *standing != Standing::InErrorLog,
-        Trace::OfCancel { .. } => false,
-    }
 }
 
 fn is_same(cancel: Option<WriteId>, other: Option<WriteId>) -> bool

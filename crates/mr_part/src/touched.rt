@@ -2,7 +2,8 @@ ghost use Rattle.std.specs.Prelude.{◌≡◌, ◌&&◌, ◌||◌, map, bytes_eq
 ghost use Rattle.mr_model.specs.Texts.{Text};
 ghost use Rattle.mr_model.specs.Writes.{Id};
 ghost use Rattle.mr_base.specs.Batches.{item_of};
-ghost use Rattle.mr_part.specs.Sets.{has_id, has_room};
+ghost use Rattle.mr_part.specs.Sets.{has_id};
+ghost use Rattle.mr_replay.specs.Seen.{has_room};
 ghost use Rattle.mr_part.specs.Touched.{commits_id, writes_in, IsTouchedBy};
 
 use crate::room_sets::{RoomSet, add_room};

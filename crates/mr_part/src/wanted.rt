@@ -3,7 +3,7 @@ ghost use Rattle.mr_model.specs.Replica.{Replica, IsReplica};
 ghost use Rattle.mr_model.specs.Scopes.{Nothing, InRoom, OfTarget, NextCommits, UpTo, Above, OfItems};
 ghost use Rattle.mr_model.specs.Tables.{Tables as RowsOfTables};
 ghost use Rattle.mr_base.specs.Batches.{item_of};
-ghost use Rattle.mr_part.specs.Parts.{HasRowsInScope};
+ghost use Rattle.mr_part.specs.Parts.{HasRowsButBookings};
 ghost use Rattle.mr_part.specs.RowTests.{IsWanted};
 ghost use Rattle.mr_part.specs.ScopeOf.{scope_of};
 
@@ -32,7 +32,7 @@ impl Wanted {
     /// What a command of this scope needs of these tables. Refused if a row of `log` in scope breaks its limits.
     pub(crate) fn of(alloc: Global, scope: &Scope<'_>, tables: &Tables) -> Result<Wanted, Refusal>
         ensures wanted { IfOk result (λ wanted. IsWanted wanted (scope_of scope.now) tables.now) }
-        ensures only { (a : Replica) → IsReplica a → HasRowsInScope tables.now (scope_of scope.now) a → IfErr result (λ e. e ≡ Refusal.OutOfMemory) }
+        ensures only { (a : Replica) → IsReplica a → HasRowsButBookings tables.now (scope_of scope.now) a → IfErr result (λ e. e ≡ Refusal.OutOfMemory) }
     {
         match *scope {
             Scope::Nothing => Ok(Wanted::nothing(alloc)),
@@ -80,7 +80,7 @@ impl Wanted {
     /// A commit.
     fn next_commits(alloc: Global, tables: &Tables, count: u64) -> Result<Wanted, Refusal>
         ensures wanted { IfOk result (λ wanted. IsWanted wanted (NextCommits count) tables.now) }
-        ensures only { (a : Replica) → IsReplica a → HasRowsInScope tables.now (NextCommits count) a → IfErr result (λ e. e ≡ Refusal.OutOfMemory) }
+        ensures only { (a : Replica) → IsReplica a → HasRowsButBookings tables.now (NextCommits count) a → IfErr result (λ e. e ≡ Refusal.OutOfMemory) }
     {
         let first = first_rows(alloc, &tables.log, count as usize)?;
         let kept = writes_of(alloc, &first)?;
@@ -94,7 +94,7 @@ impl Wanted {
     /// A truncation.
     fn up_to(alloc: Global, tables: &Tables, number: u64) -> Result<Wanted, Refusal>
         ensures wanted { IfOk result (λ wanted. IsWanted wanted (UpTo number) tables.now) }
-        ensures only { (a : Replica) → IsReplica a → HasRowsInScope tables.now (UpTo number) a → IfErr result (λ e. e ≡ Refusal.OutOfMemory) }
+        ensures only { (a : Replica) → IsReplica a → HasRowsButBookings tables.now (UpTo number) a → IfErr result (λ e. e ≡ Refusal.OutOfMemory) }
     {
         let kept = writes_where(alloc, &tables.log, &LogTest::UpTo(number))?;
         Ok(Wanted {
@@ -106,7 +106,7 @@ impl Wanted {
     /// A batch for a position.
     fn above(alloc: Global, tables: &Tables, number: u64) -> Result<Wanted, Refusal>
         ensures wanted { IfOk result (λ wanted. IsWanted wanted (Above number) tables.now) }
-        ensures only { (a : Replica) → IsReplica a → HasRowsInScope tables.now (Above number) a → IfErr result (λ e. e ≡ Refusal.OutOfMemory) }
+        ensures only { (a : Replica) → IsReplica a → HasRowsButBookings tables.now (Above number) a → IfErr result (λ e. e ≡ Refusal.OutOfMemory) }
     {
         let kept = writes_where(alloc, &tables.log, &LogTest::Above(number))?;
         Ok(Wanted {
@@ -118,7 +118,7 @@ impl Wanted {
     /// A batch that is received.
     fn of_items(alloc: Global, tables: &Tables, items: &[Item]) -> Result<Wanted, Refusal>
         ensures wanted { IfOk result (λ wanted. IsWanted wanted (OfItems (map item_of items.now)) tables.now) }
-        ensures only { (a : Replica) → IsReplica a → HasRowsInScope tables.now (OfItems (map item_of items.now)) a
+        ensures only { (a : Replica) → IsReplica a → HasRowsButBookings tables.now (OfItems (map item_of items.now)) a
             → IfErr result (λ e. e ≡ Refusal.OutOfMemory) }
     {
         let meta = tables.meta;

@@ -18,7 +18,7 @@ use Rattle.mr_model.proofs.Members.{filter_has, has_map, has_among, same_id-true
 use Rattle.mr_model.specs.Queries.{log_id}
 use Rattle.mr_part.specs.Tails.{has_place}
 use Rattle.mr_part.specs.Named.{has_commit}
-use Rattle.mr_part.specs.Sets.{has_room}
+use Rattle.mr_replay.specs.Seen.{has_room}
 use Rattle.mr_rows.specs.declared.passing.LateRows.{LateRows}
 use Rattle.mr_rows.specs.RowQuestions.{is_row_asked, is_log_between, is_log_named, is_late_row}
 use Rattle.mr_rows.proofs.RowLemmas.{filter_same, filter_both}

@@ -6,7 +6,7 @@ use Rattle.mr_model.specs.Tables.{LogRow}
 use Rattle.mr_model.specs.Scopes.{has_number}
 use Rattle.mr_part.specs.BatchScopes.{IsBatchScope}
 use Rattle.mr_part.specs.Named.{has_commit}
-use Rattle.mr_part.specs.Sets.{has_room}
+use Rattle.mr_replay.specs.Seen.{has_room}
 use Rattle.mr_part.specs.Tails.{has_place}
 use Rattle.mr_part.specs.declared.tail.Tail.{Tail}
 use Rattle.mr_rows.specs.declared.passing.LateRows.{LateRows}

@@ -1,7 +1,7 @@
 -- Tests of rows by their rooms.
 use Rattle.std.specs.Prelude.{Bool}
 use Rattle.mr_model.specs.Tables.{BookingRow, CancelledRow}
-use Rattle.mr_part.specs.Sets.{has_room}
+use Rattle.mr_replay.specs.Seen.{has_room}
 use Rattle.mr_sql.specs.declared.scope_rooms.RoomTest.{RoomTest}
 
 -- the rows that stand in one of the rooms

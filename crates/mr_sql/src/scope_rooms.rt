@@ -1,7 +1,8 @@
 ghost use Rattle.std.specs.Prelude.{◌≡◌, List, IfOk};
 ghost use Rattle.sqlite_value.specs.Order.{column, bytes};
 ghost use Rattle.mr_model.specs.Texts.{Text};
-ghost use Rattle.mr_part.specs.Sets.{AreSameRooms, has_room, IsSetOf};
+ghost use Rattle.mr_part.specs.Sets.{AreSameRooms, IsSetOf};
+ghost use Rattle.mr_replay.specs.Seen.{has_room};
 ghost use Rattle.mr_sql.specs.RoomTests.{books_in, cancels_in};
 
 use mr_base::RoomName;

@@ -5,7 +5,8 @@ use Rattle.std.specs.List.{list_any}
 use Rattle.std.specs.Prelude.{bytes_eq}
 use Rattle.mr_model.specs.Writes.{Stamp, Write, id_of}
 use Rattle.mr_part.specs.declared.kept_rows.KeptRow.{KeptRow}
-use Rattle.mr_part.specs.Sets.{has_id, has_room}
+use Rattle.mr_part.specs.Sets.{has_id}
+use Rattle.mr_replay.specs.Seen.{has_room}
 use Rattle.mr_part.proofs.Sets.{added_more}
 use Rattle.mr_part.proofs.movable.add_rows.Goals as goal
 

@@ -5,6 +5,7 @@ use Rattle.mr_tables.specs.Rooms.{rooms_beside}
 use Rattle.mr_tables.specs.Written.{meta_of, changed_tallies, written}
 use Rattle.mr_part.specs.Taken.{ReachedView}
 use Rattle.mr_part.specs.Placing.{with_places_put, cancellers_on}
+use Rattle.mr_part.specs.RoomMoves.{undone_at, ReplaysRooms}
 use Rattle.mr_part.specs.Targets.{moved_targets}
 use Rattle.mr_part.proofs.PartMoves.{part_moved, part_rows, part_ends}
 use Rattle.mr_part.proofs.part_moved.moved.Goals as goal
@@ -22,7 +23,7 @@ returns-clause-turns c = λ items a b moves.
     let v = c.reached.view_is in
     let board = c.args.board in
     let after = c.replayed_in_rooms.new.board in
-    let replays = c.in_ok-rows.ensures.replayed (λ name. (moves.rooms_undone name).1) in
+    let replays = subst (λ b. ReplaysRooms (undone_at c.args.in_rooms) ws b after c.in_ok-rows.rows.items) c.over-board.ensures (c.in_ok-rows.ensures.replayed (λ name. (moves.rooms_undone name).1)) in
     let rows = c.deref.ensures.value ∙ part_rows old known board items a b to.summary to.rooms us c.args.in_rooms ws moves after c.in_ok-rows.rows.items replays in
     let (writes, undo) = c.in_ok-changed.ensures.changed (place_of b) rows in
     let put = c.deref-3.ensures.value ∙ writes in

@@ -2,7 +2,7 @@ use Rattle.std.proofs.Common.{◌≡◌, ◌||◌, drop}
 use Rattle.std.specs.List.{list_any}
 use Rattle.std.specs.Prelude.{bytes_eq}
 use Rattle.mr_model.specs.Texts.{Text}
-use Rattle.mr_part.specs.Sets.{has_room}
+use Rattle.mr_replay.specs.Seen.{has_room}
 use Rattle.mr_part.proofs.room_sets.room_set.Given as goal
 
 -- with those that are left, the rooms are all

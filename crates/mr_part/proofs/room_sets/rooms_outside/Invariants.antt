@@ -1,6 +1,6 @@
 use Rattle.std.proofs.Common.{◌≡◌, not, take}
 use Rattle.std.specs.List.{filter}
-use Rattle.mr_part.specs.Sets.{has_room}
+use Rattle.mr_replay.specs.Seen.{has_room}
 use Rattle.mr_part.proofs.room_sets.rooms_outside.Given as goal
 
 -- those of the rooms so far

@@ -3,7 +3,8 @@ use Rattle.std.specs.List.{list_any}
 use Rattle.std.specs.Prelude.{bytes_eq}
 use Rattle.mr_model.specs.Texts.{Text}
 use Rattle.mr_model.specs.Queries.{log_id}
-use Rattle.mr_part.specs.Sets.{has_id, has_room}
+use Rattle.mr_part.specs.Sets.{has_id}
+use Rattle.mr_replay.specs.Seen.{has_room}
 use Rattle.mr_part.proofs.scope_batch.add_rows.Given as goal
 
 -- with those of the rows that are left, the rooms are all

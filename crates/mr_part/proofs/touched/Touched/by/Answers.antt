@@ -6,7 +6,8 @@ use Rattle.mr_model.specs.Texts.{Text}
 use Rattle.mr_model.specs.Writes.{Id}
 use Rattle.mr_base.specs.declared.batches.Item.{Item}
 use Rattle.mr_base.specs.Batches.{item_of}
-use Rattle.mr_part.specs.Sets.{has_id, has_room}
+use Rattle.mr_part.specs.Sets.{has_id}
+use Rattle.mr_replay.specs.Seen.{has_room}
 use Rattle.mr_part.specs.Touched.{commits_id, writes_in}
 use Rattle.mr_part.proofs.Sets.{added_more}
 use Rattle.mr_part.proofs.touched.Touched.by.Goals as goal

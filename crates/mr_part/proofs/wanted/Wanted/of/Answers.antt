@@ -2,14 +2,14 @@ use Rattle.std.proofs.Common.{◌≡◌, ap, sym, subst}
 use Rattle.mr_model.specs.Replica.{Replica}
 use Rattle.mr_model.specs.Scopes.{Scope}
 use Rattle.mr_model.specs.Tables.{Tables}
-use Rattle.mr_part.specs.Parts.{HasRowsInScope}
+use Rattle.mr_part.specs.Parts.{HasRowsButBookings}
 use Rattle.mr_part.specs.RowTests.{IsWanted}
 use Rattle.mr_part.specs.ScopeOf.{scope_of}
 use Rattle.mr_part.proofs.wanted.Wanted.of.Goals as goal
 
 -- the rows in scope of one and the same scope
-in_this : (s r : Scope) (t : Tables) (a : Replica) → s ≡ r → HasRowsInScope t s a → HasRowsInScope t r a
-in_this s r t a is e = subst (λ x. HasRowsInScope t x a) is e
+in_this : (s r : Scope) (t : Tables) (a : Replica) → s ≡ r → HasRowsButBookings t s a → HasRowsButBookings t r a
+in_this s r t a is e = subst (λ x. HasRowsButBookings t x a) is e
 
 pub returns-in-Nothing-clause-wanted : goal.returns-in-Nothing-clause-wanted
 returns-in-Nothing-clause-wanted c = subst (λ s. IsWanted c.nothing.result s c.args.tables.now) (sym (ap scope_of c.in-Nothing.is)) (c.nothing.ensures c.args.tables.now)
