@@ -1,12 +1,12 @@
 ghost use Rattle.std.specs.Prelude.{◌≡◌, ◌≤◌, Bool, true, List, bytes_eq, IfOk};
 ghost use Rattle.mr_model.specs.Texts.{Text};
-ghost use Rattle.mr_model.specs.Writes.{Id, same_id};
+ghost use Rattle.mr_model.specs.Writes.{Id};
 ghost use Rattle.mr_model.specs.Replica.{is_among};
 ghost use Rattle.mr_tables.specs.Change.{rows_without, id_before};
 ghost use Rattle.mr_tables.proofs.Putting.{IsOrder, InOrder};
 ghost use Rattle.std.specs.Vec.{vec_len, vec_capacity};
 
-use mr_base::{RoomName, WriteId};
+use mr_base::{RoomName, ServerId, WriteId};
 use std::alloc::{AllocError, Global};
 
 /// A row of a table, whose key has its place in the order of the table's keys.
@@ -34,13 +34,9 @@ pub trait IdRow: TableRow {
 
     ghost room: { Self → Text };
 
-    /// Whether it is of the write with this id.
-    fn is_of(&self, write: WriteId) -> bool
-        ensures { result ≡ same_id (id self.now) write };
-
-    /// Whether its id stands before this one.
-    fn is_in_front_of(&self, write: WriteId) -> bool
-        ensures { result ≡ id_before (id self.now) write };
+    /// The id of its write, as cells: the count may be out of range.
+    fn cells_of_id(&self) -> (ServerId, u32)
+        ensures { result ≡ ((id self.now).server, (id self.now).n) };
 
     /// Whether its write is of this room.
     fn is_in(&self, name: &RoomName) -> bool
@@ -84,7 +80,7 @@ fn is_of_any<R: IdRow>(row: &R, writes: &[WriteId]) -> bool
     ensures { result ≡ is_among (R.id row.now) writes.now }
 {
     for write in writes {
-        if row.is_of(*write) {
+        if row.cells_of_id() == (write.server, write.n) {
             return true;
         }
     }

@@ -1,11 +1,10 @@
 -- Of tables that stand for a replica no row has the id that a command gives.
-use Rattle.std.proofs.Common.{◌≡◌, refl, sym, ap, ◌∙◌, subst, ℕ, ◌+◌, ◌<◌, Bool, true, false, cond, Option, Some, None, Result, Ok, Err, arith}
+use Rattle.std.proofs.Common.{◌≡◌, refl, ap, ◌∙◌, ◌+◌, Bool, true, false, cond, Ok, Err, arith}
 use Rattle.std.specs.Prelude.{nat_le}
-use Rattle.mr_model.specs.Writes.{Id, Stamp, greatest_count, greatest_time}
-use Rattle.mr_model.specs.Replica.{Replica, IsReplica, count_of, clock_of}
+use Rattle.mr_model.specs.Writes.{Stamp, greatest_count, greatest_time}
+use Rattle.mr_model.specs.Replica.{Replica, count_of, clock_of}
 use Rattle.mr_model.specs.Scopes.{Scope, Nothing, InRoom, OfTarget, NextCommits, UpTo, Above, OfItems}
 use Rattle.mr_model.specs.Tables.{Tables, Stands}
-use Rattle.mr_base.specs.declared.refusals.Refusal.{Refusal}
 use Rattle.mr_base.specs.declared.refusals.Refusal.TheVariants.{ClockExhausted, CountExhausted}
 use Rattle.mr_tables.specs.Summary.{summary_of, stamp_next}
 use Rattle.mr_tables.proofs.Summaries.{tally-of}

@@ -2,7 +2,7 @@ ghost use Rattle.std.specs.Prelude.{◌≡◌, ℕ, false, IfOk, OnOk, OnErr};
 ghost use Rattle.mr_store.specs.KeeperCalls.{failures_after, IsAtomic, IsQuiet};
 ghost use Rattle.mr_store.specs.Cached.{IsMemoryAfter, IsMemoryOf, NeverFails};
 
-use crate::memory::Remembered;
+use crate::memory::Memory;
 use crate::{Answer, Fault, Keeper, Question};
 use mr_part::{Part, Scope};
 use mr_replica::Desk;
@@ -14,13 +14,14 @@ use std::marker::Model;
 /// first and then in memory: so once its rows are read, the keeper is only written.
 ///
 /// The rows are read at the first question. They are forgotten if a change fails or memory doesn't take it, and if they break
-/// their rules: then the keeper itself is asked, so that it counts the failure. If memory doesn't take the rows, that call is
-/// refused, and from then on the keeper itself is asked, which wants less; so it is if they aren't in the order of their keys.
+/// their rules: then the keeper itself is asked, so that it counts the failure. If memory doesn't take the keeper's
+/// answer, that call is refused, and from then on the keeper itself is asked, which wants less; so it is asked if memory doesn't take the
+/// rows as maps, or if they aren't in the order of their keys.
 #[derive(Drop)]
 pub struct Cached<K: Keeper> {
     alloc: Global,
     keeper: K,
-    memory: Option<Remembered>,
+    memory: Option<Memory>,
     is_passed_over: bool,
 }
 
@@ -57,7 +58,7 @@ impl<K: Keeper> Cached<K> {
     }
 
     /// Takes the rows out of memory, or reads them if they aren't there. It is None if the keeper itself is to be asked.
-    fn recall(&mut self) -> Result<Option<Remembered>, Fault>
+    fn recall(&mut self) -> Result<Option<Memory>, Fault>
         ensures quiet { IsQuiet K.tables K.failures K.is_clean K.is_open K.may_leave (NeverFails K.Keeper) self.old self.new result }
         ensures rows { IfOk result (λ memory. IsMemoryOf K.Keeper self.new memory) }
     {
@@ -68,7 +69,7 @@ impl<K: Keeper> Cached<K> {
             return Ok(None);
         }
         match self.keeper.read() {
-            Ok(tables) => match Remembered::over(self.alloc, tables) {
+            Ok(tables) => match Memory::over(self.alloc, tables) {
                 Some(memory) => Ok(Some(memory)),
                 None => {
                     self.is_passed_over = true;
@@ -87,7 +88,7 @@ impl<K: Keeper> Cached<K> {
 /// failure may have shut it, and then it is the keeper that has to answer what is asked from now on.
 fn write_through<K: Keeper>(
     keeper: &mut K,
-    memory: &mut Option<Remembered>,
+    memory: &mut Option<Memory>,
     change: &Change,
 ) -> Result<(), Fault>
     ensures atomic { IsAtomic K.tables K.failures K.is_clean K.is_open K.may_leave K.never_fails change.now keeper.old keeper.new result }
@@ -101,7 +102,7 @@ fn write_through<K: Keeper>(
 }
 
 /// Makes the change in the rows in memory, if there are any. If memory doesn't take it, they are forgotten.
-fn change_memory(memory: Option<Remembered>, change: &Change) -> Option<Remembered>
+fn change_memory(memory: Option<Memory>, change: &Change) -> Option<Memory>
     ensures { IsMemoryAfter change.now memory result }
 {
     memory?.changed(change)
@@ -133,7 +134,7 @@ impl<K: Keeper> Keeper for Cached<K> {
     ghost never_fails = { NeverFails K.Keeper };
 
     fn load(&mut self) -> Result<Desk, Fault> {
-        let Some(mut memory) = self.recall()? else {
+        let Some(memory) = self.recall()? else {
             return self.keeper.load();
         };
         let answer = memory.load();
@@ -145,7 +146,7 @@ impl<K: Keeper> Keeper for Cached<K> {
     }
 
     fn load_part(&mut self, scope: &Scope<'_>) -> Result<Part, Fault> {
-        let Some(mut memory) = self.recall()? else {
+        let Some(memory) = self.recall()? else {
             return self.keeper.load_part(scope);
         };
         let answer = memory.load_part(scope);
@@ -157,7 +158,7 @@ impl<K: Keeper> Keeper for Cached<K> {
     }
 
     fn query(&mut self, question: &Question<'_>) -> Result<Answer, Fault> {
-        let Some(mut memory) = self.recall()? else {
+        let Some(memory) = self.recall()? else {
             return self.keeper.query(question);
         };
         let answer = memory.query(question);
@@ -169,7 +170,7 @@ impl<K: Keeper> Keeper for Cached<K> {
     }
 
     fn read(&mut self) -> Result<Tables, Fault> {
-        let Some(mut memory) = self.recall()? else {
+        let Some(memory) = self.recall()? else {
             return self.keeper.read();
         };
         let answer = memory.read();

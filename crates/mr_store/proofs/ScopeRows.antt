@@ -1,0 +1,32 @@
+-- Tables with the rows that a command needs have in its scope what all tables have.
+use Rattle.std.proofs.Common.{◌≡◌, Bool, true, false, cond, List, [], ◌∷◌, refl, ap, ◌∙◌}
+use Rattle.std.specs.List.{filter}
+use Rattle.std.specs.Str.{bytes_eq}
+use Rattle.mr_model.specs.Texts.{Text}
+use Rattle.mr_model.specs.Scopes.{InRoom, OfTarget, in_scope, with_rows}
+use Rattle.mr_model.specs.Tables.{BookingRow, ErrorRow, CancelledRow, Tables}
+use Rattle.mr_model.specs.Queries.{booking_id, error_id, cancelled_id}
+use Rattle.mr_model.specs.Writes.{Id, same_id}
+
+-- to pick twice is to pick once
+twice : {R : Type 0} (p : R → Bool) (rows : List R) → filter p (filter p rows) ≡ filter p rows
+twice p [] = refl
+twice {R} p (x ∷ xs) = go (p x) refl (twice p xs)
+  where
+    go : (b : Bool) → p x ≡ b → filter p (filter p xs) ≡ filter p xs → filter p (cond b (x ∷ filter p xs) (filter p xs)) ≡ cond b (x ∷ filter p xs) (filter p xs)
+    go true e ih = ap (λ c. cond c (x ∷ filter p (filter p xs)) (filter p (filter p xs))) e ∙ ap (λ ys. x ∷ ys) ih
+    go false e ih = ih
+
+again : {R : Type 0} (p : R → Bool) (rows picked : List R) → picked ≡ filter p rows → filter p picked ≡ filter p rows
+again p rows picked is = ap (filter p) is ∙ twice p rows
+
+pub room_scope : (t : Tables) (room : Text) (booking : List BookingRow) (cancelled : List CancelledRow) → booking ≡ filter (λ r. bytes_eq r.room room) t.booking → cancelled ≡ filter (λ r. bytes_eq r.room room) t.cancelled → in_scope (InRoom room) (with_rows t [] booking [] cancelled) ≡ in_scope (InRoom room) t
+room_scope t room booking cancelled b c =
+    (λ i. with_rows t [] (again (λ (x : BookingRow). bytes_eq x.room room) t.booking booking b i) [] (again (λ (x : CancelledRow). bytes_eq x.room room) t.cancelled cancelled c i))
+
+pub target_scope : (t : Tables) (target : Id) (booking : List BookingRow) (errorlog : List ErrorRow) (cancelled : List CancelledRow) → booking ≡ filter (λ r. same_id (booking_id r) target) t.booking → errorlog ≡ filter (λ r. same_id (error_id r) target) t.errorlog → cancelled ≡ filter (λ r. same_id (cancelled_id r) target) t.cancelled → in_scope (OfTarget target) (with_rows t [] booking errorlog cancelled) ≡ in_scope (OfTarget target) t
+target_scope t target booking errorlog cancelled b e c =
+    (λ i. with_rows t []
+    (again (λ (x : BookingRow). same_id (booking_id x) target) t.booking booking b i)
+    (again (λ (x : ErrorRow). same_id (error_id x) target) t.errorlog errorlog e i)
+    (again (λ (x : CancelledRow). same_id (cancelled_id x) target) t.cancelled cancelled c i))

@@ -1,0 +1,13 @@
+use Rattle.std.proofs.Common.{ap, ◌∙◌}
+use Rattle.std.specs.BTreeMap.{is_at}
+use Rattle.std.specs.Map.{lookup}
+use Rattle.std.specs.Option.{is_some}
+use Rattle.std.specs.List.{list_any}
+use Rattle.mr_model.specs.Writes.{same_id}
+use Rattle.mr_store.proofs.RowsById.{cells_cmp, any_keyed}
+use Rattle.mr_store.proofs.row_map.RowMap.has.Goals as goal
+
+pub returns : goal.returns
+returns g c =
+    let id = g.R.IdRow.id in
+    c.contains_key.ensures ∙ ap (λ k. is_some (lookup (is_at (cells_cmp k)) c.self.inside.rows.entries)) c.cells_of.ensures ∙ any_keyed id c.self.inside.rows.entries c.args.id c.self.invariant ∙ ap (list_any (λ r. same_id (id r) c.args.id)) c.self.view_is
