@@ -308,12 +308,21 @@ run_strange() {
         "INSERT INTO booking VALUES ('elm', '1995-12-18', 540, 600, 1, 1, '$(printf 'y%.0s' $(seq 60))', 0)"
     strange 'a title of 61 bytes' 1 'refused 25 Store' \
         "INSERT INTO booking VALUES ('elm', '1995-12-18', 540, 600, 1, 1, '$(printf 'y%.0s' $(seq 61))', 0)"
+    strange 'a slot of one minute' 1 'refused 7 UnknownRoom' "INSERT INTO booking VALUES ('elm', '1995-12-18', 1439, 1440, 1, 1, 'Alpha', 0)"
+    strange 'a slot that ends as it begins' 1 'refused 25 Store' "INSERT INTO booking VALUES ('elm', '1995-12-18', 540, 540, 1, 1, 'Alpha', 0)"
+    strange 'a slot that ends on the next day' 1 'refused 25 Store' "INSERT INTO booking VALUES ('elm', '1995-12-18', 1439, 1441, 1, 1, 'Alpha', 0)"
+    strange 'a write at time 0' 1 'refused 25 Store' "INSERT INTO cancel VALUES (1, 2, 'oak', 1, 1, 0, 0, 0)"
+    strange 'a commit beyond all' 1 'refused 25 Store' "INSERT INTO cancel VALUES (1, 2, 'oak', 1, 1, 0, 1, 1000000000000)"
     strange 'the number of the first schema on these tables' 1 'refused 26 NotAReplica' 'UPDATE meta SET schema = 1'
     strange 'the number of a schema to come' 1 'refused 26 NotAReplica' 'UPDATE meta SET schema = 3'
     strange 'a second number of the one row' 1 'refused 25 Store' 'UPDATE meta SET one = 2'
     strange 'a place in the undo rows of the first schema' 1 'refused 25 Store' 'INSERT INTO undo VALUES (1, 1, 0)'
     strange 'a write in the log of the first schema' 1 'refused 25 Store' \
         "INSERT INTO write_log VALUES (1, 1, 1, 'oak', 60, '1995-12-18 09:00', 'Alpha', 0)"
+    strange_write 'a choice that is no time' "0, 60, '1995-12-18 9h', 'Alpha', 0, 0, 0"
+    strange_write 'a space behind the choices' "0, 60, '1995-12-18 09:00 ', 'Alpha', 0, 0, 0"
+    strange_write 'a choice that ends on the next day' "0, 60, '1995-12-18 09:00 1995-12-18 23:01', 'Alpha', 0, 0, 0"
+    strange_write 'a meeting of no length' "0, 0, '1995-12-18 09:00', 'Alpha', 0, 0, 0"
     strange_write 'a place of no choice' "0, 60, '1995-12-18 09:00', 'Alpha', 0, 0, 17"
     strange_write 'a place below all' "1, 0, '', '', 1, 1, -4"
     strange_write 'a place that a cancel has' "0, 60, '1995-12-18 09:00', 'Alpha', 0, 0, -2"

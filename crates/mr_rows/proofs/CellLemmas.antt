@@ -1,22 +1,23 @@
 -- What is read of a cell, and which cells are refused.
-use Rattle.std.proofs.Common.{◌≡◌, inl, inr, ◌⊎◌, ℕ, ◌+◌, ◌-◌, ◌/◌, ◌%◌, ◌<◌, ◌≤◌, List, [], ◌∷◌, length, true, false, not, Bool, ◌&&◌, ◌||◌, Some, None, Result, Ok, Err, IsTrue, cond, refl, sym, ap, subst, ◌∙◌, arith, lit<, leb-true, eqb-true}
+use Rattle.std.proofs.Common.{◌≡◌, inl, inr, ◌⊎◌, ℕ, ◌+◌, ◌-◌, ◌/◌, ◌%◌, ◌<◌, ◌≤◌, [], ◌∷◌, length, true, false, not, Bool, ◌&&◌, ◌||◌, Some, None, Result, Ok, Err, IsTrue, cond, refl, sym, ap, subst, ◌∙◌, arith, lit<, leb-true, ltb-true, eqb-true}
 use Rattle.std.proofs.lemmas.Bool.{and_parts, or_cases, cases_lt}
 use Rattle.std.proofs.lemmas.List.{get_or_past}
 use Rattle.std.proofs.lemmas.Slice.Eq.{bytes_eq-Decides}
 use Rattle.std.proofs.lemmas.Str.{IsUtf8-from_ascii, IsUtf8-from_is_utf8, is_utf8-from_IsUtf8}
 use Rattle.std.proofs.lemmas.Str.Ascii.{IsAscii-nil, IsAscii-cons}
 use Rattle.std.specs.List.{AllByRecursion, list_all}
-use Rattle.std.specs.Prelude.{bytes_eq, ok_or, is_ok, IfOk, IfErr, nat_le, slice_index, ◌==◌}
+use Rattle.std.specs.Prelude.{bytes_eq, ok_or, is_ok, IfOk, IfErr, nat_le, nat_lt, slice_index, ◌==◌}
 use Rattle.std.specs.Str.{IsAscii, IsUtf8, is_utf8}
 use Rattle.sqlite_value.specs.declared.value.Value.{Value}
 use Rattle.sqlite_value.specs.declared.value.Value.TheVariants.{Null, Int, Real, Blob}
 use Rattle.sqlite_value.specs.declared.value.Value.TheVariants as cell
 use Rattle.sqlite_value.specs.Order.{Row, column}
 use Rattle.mr_model.specs.Texts.{Text, within}
-use Rattle.mr_model.specs.Calendar.{Date, is_date, date_text, date_in, read_date}
+use Rattle.mr_model.specs.Calendar.{Date, is_date, date_text, date_in, read_date, time_text, time_in}
 use Rattle.mr_model.specs.Writes.{is_room_byte, is_room_name, is_title}
 use Rattle.mr_model.proofs.WordsReadBack.{date_facts}
-use Rattle.mr_rows.specs.CellLimits.{is_text, is_day_text}
+use Rattle.mr_rows.specs.RowLimits.{is_day_text, is_start_text}
+use Rattle.mr_rows.specs.CellLimits.{is_text}
 
 -- a day that is read of a text is the one that the text would be of
 pub day_read : {E : Type 0} (text : Text) (day : Date) (e : E) → Ok day ≡ ok_or (read_date text) e → day ≡ date_in text
@@ -109,14 +110,14 @@ no_text p q all (Blob b) h = refl
 
 -- ---- what is ASCII
 
-abbrev Low : Text → Type 0
+abbrev pub Low : Text → Type 0
 Low t = AllByRecursion (λ c. c < 128) t
 
 is_ascii : (t : Text) → Low t → IsAscii t
 is_ascii [] h = IsAscii-nil
 is_ascii (c ∷ cs) h = IsAscii-cons c cs h.0 (is_ascii cs h.1)
 
-utf8 : (t : Text) → Low t → is_utf8 t ≡ true
+pub utf8 : (t : Text) → Low t → is_utf8 t ≡ true
 utf8 t h = is_utf8-from_IsUtf8 t (IsUtf8-from_ascii t (is_ascii t h))
 
 up_to : (low high n : ℕ) → within low high n ≡ true → n ≤ high
@@ -150,7 +151,7 @@ title_utf8 t h =
 two_low : (n : ℕ) → n < 100 → (48 + n / 10 < 128) × (48 + n % 10 < 128)
 two_low n h = (omega (arith, h), omega (arith, h))
 
-date_low : (d : Date) → is_date d ≡ true → Low (date_text d)
+pub date_low : (d : Date) → is_date d ≡ true → Low (date_text d)
 date_low d ok =
     let f = date_facts d ok in
     let y : d.year < 2100 = f.to_2099 in
@@ -159,6 +160,18 @@ date_low d ok =
     let month = two_low d.month f.month in
     let day = two_low d.day f.day in
     (century.0, (century.1, (year.0, (year.1, (lit< tt, (month.0, (month.1, (lit< tt, (day.0, (day.1, tt))))))))))
+
+pub time_low : (n : ℕ) → n ≤ 1439 → Low (time_text n)
+time_low n h =
+    let hour = two_low (n / 60) (omega (arith, h)) in
+    let minute = two_low (n % 60) (omega arith) in
+    (hour.0, (hour.1, (lit< tt, (minute.0, (minute.1, tt)))))
+
+pub start_utf8 : (n : ℕ) (t : Text) → is_start_text n t ≡ true → is_utf8 t ≡ true
+start_utf8 n t h =
+    let both = and_parts (nat_lt (time_in t) 1440) (bytes_eq (time_text (time_in t)) t) (and_parts _ (nat_le (time_in t + n) 1440) h).0 in
+    let low = ltb-true (time_in t) 1440 both.0 in
+    subst (λ x. is_utf8 x ≡ true) ((bytes_eq-Decides (time_text (time_in t)) t).0 both.1) (utf8 _ (time_low (time_in t) (omega (arith, low))))
 
 pub day_utf8 : (t : Text) → is_day_text t ≡ true → is_utf8 t ≡ true
 day_utf8 t h =

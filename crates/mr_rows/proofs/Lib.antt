@@ -9,6 +9,9 @@ pub mod StepLemmas
 pub mod StatementLemmas
 pub mod CellLemmas
 pub mod ShownRows
+pub mod ChoiceLemmas
+pub mod ChoiceTexts
+pub mod LimitsKept
 pub mod QueryLemmas
 pub mod StreamedRows
 pub mod FirstLemmas

@@ -1,9 +1,8 @@
 -- A row whose cells pass their tests is one that its table can have, and only such a row.
-use Rattle.std.proofs.Common.{◌≡◌, inl, inr, ◌⊎◌, ℕ, zero, suc, ◌+◌, ◌≤◌, pos, negsuc, List, [], ◌∷◌, ◌++◌, drop, length, Bool, true, false, not, ◌&&◌, if◌then◌else◌, IsTrue, Result, Ok, Err, refl, sym, ap, subst, ◌∙◌, arith, leb-true, le-leb}
+use Rattle.std.proofs.Common.{◌≡◌, inl, inr, ◌⊎◌, ℕ, zero, suc, ◌+◌, ◌≤◌, pos, negsuc, [], ◌∷◌, ◌++◌, drop, length, Bool, true, false, ◌&&◌, if◌then◌else◌, IsTrue, Result, Ok, Err, refl, sym, ap, subst, ◌∙◌, arith, leb-true, le-leb}
 use Rattle.std.proofs.lemmas.Bool.{and_parts, and_from}
 use Rattle.std.proofs.lemmas.Slice.Eq.{bytes_eq-Decides}
 use Rattle.std.specs.Prelude.{bytes_eq, nat_le, ◌==◌, OnOk, IfErr, IfOk}
-use Rattle.std.specs.Str.{is_utf8}
 use Rattle.sqlite_value.specs.declared.value.Value.{Value}
 use Rattle.sqlite_value.specs.declared.value.Value.TheVariants.{Null, Int, Real, Text, Blob}
 use Rattle.sqlite_value.specs.Order.{Row, column, bytes}
@@ -12,11 +11,11 @@ use Rattle.mr_model.specs.Texts.{within}
 use Rattle.mr_model.specs.Calendar.{is_date, date_text, date_in}
 use Rattle.mr_model.specs.Writes.{is_server, is_count, is_time, Id, is_id, is_room_name, is_title, is_length, greatest_count, greatest_time}
 use Rattle.mr_model.specs.Replay.{Place, Taken, Logged, Done, Void}
-use Rattle.mr_model.specs.Tables.{ActionCells, MeetingCells}
+use Rattle.mr_model.specs.Tables.{ActionCells, OfMeeting, MeetingCells}
 use Rattle.mr_tables.specs.Cells.{is_cancel_cells}
 use Rattle.mr_rows.specs.RowCells.{nat_of, whole_of, flag_number, place_number, place_in, action_row, action_in, log_in, meta_in, meta_cells_of}
-use Rattle.mr_rows.specs.RowLimits.{is_commit, is_meta_row, is_action_cells, is_place_of, is_slot_row}
-use Rattle.mr_rows.specs.CellLimits.{is_number, is_text, is_day_text, is_empty_text, is_server_cell, is_count_cell, is_time_cell, is_commit_cell, is_mark_cell, is_span_cells, is_id_cells, is_place_cell, are_slot_cells, are_booking_cells, are_error_cells, are_cancelled_cells, are_cancel_cells, are_vector_cells, are_meeting_cells, are_target_cells, are_action_cells, are_log_cells, are_meta_cells}
+use Rattle.mr_rows.specs.RowLimits.{is_day_text, is_choices, is_commit, is_meta_row, is_action_cells, is_place_of, is_slot_row}
+use Rattle.mr_rows.specs.CellLimits.{is_number, is_text, is_empty_text, is_server_cell, is_count_cell, is_time_cell, is_commit_cell, is_mark_cell, is_span_cells, is_id_cells, is_place_cell, are_slot_cells, are_booking_cells, are_error_cells, are_cancelled_cells, are_cancel_cells, are_vector_cells, are_meeting_cells, are_target_cells, are_action_cells, are_log_cells, are_meta_cells}
 use Rattle.mr_rows.specs.Form.{Form, room_form, vector_form, log_form, booking_form, error_form, cancelled_form, cancel_form}
 use Rattle.mr_rows.specs.Shown.{columns_from, IsShownAs}
 
@@ -322,10 +321,10 @@ meeting_is r booked h =
     let a = and_parts (are_meeting_cells r) (is_place_cell false (column r 10)) h in
     let b = and_parts _ (is_number 0 0 (column r 8) && is_number 0 0 (column r 9)) a.0 in
     let c = and_parts _ (is_text is_title (column r 7)) b.0 in
-    let d = and_parts (is_number 1 1440 (column r 5)) (is_text is_utf8 (column r 6)) c.0 in
+    let d = and_parts (is_number 1 1440 (column r 5)) (is_text (is_choices (nat_of (column r 5))) (column r 6)) c.0 in
     let e = and_parts (is_number 0 0 (column r 8)) (is_number 0 0 (column r 9)) b.1 in
     let long = number_is 1 1440 (column r 5) d.0 in
-    let choices = text_is is_utf8 (column r 6) d.1 in
+    let choices = text_is (is_choices (nat_of (column r 5))) (column r 6) d.1 in
     let title = text_is is_title (column r 7) c.1 in
     let server = given 0 (column r 8) e.0 in
     let n = given 0 (column r 9) e.1 in
@@ -349,6 +348,10 @@ target_is r h =
     subst (λ k. IsAction r (action_in k (record { length = nat_of (column r 5); choices = bytes (column r 6); title = bytes (column r 7) }) (record { server = nat_of (column r 8); n = nat_of (column r 9) }))) (sym kind.1)
     (record { cells = λ i. kind.0 i ∷ long.0 i ∷ choices i ∷ title i ∷ id.0 i ∷ id.1 i ∷ []; place = place.0; within = id.2; placed = place.1 })
 
+-- what is read of a row that books
+pub books : (v : Value) (m got : MeetingCells) (t : Id) → is_number 0 0 v ≡ true → got ≡ m → OfMeeting got ≡ action_in (nat_of v) m t
+books v m got t booked is = ap OfMeeting is ∙ sym (ap (λ k. action_in k m t) (given 0 v booked).1)
+
 action_is : (r : Row) → are_action_cells r ≡ true → IsAction r (action_of r)
 action_is r h = go (is_number 0 0 (column r 4)) refl h
   where
@@ -362,8 +365,10 @@ action_told : (k : ℕ) (m : MeetingCells) (t : Id) (p : Place) (q : ℕ) (r : R
 action_told zero m t p q r same h placed =
     let at = λ (k : ℕ). ap (λ x. column x k) same in
     let a = and_parts _ (is_title m.title) h in
-    let b = and_parts (is_length m.length) (is_utf8 m.choices) a.0 in
-    let cells = and_from _ _ (and_from _ _ (and_from _ _ (number_told 1 1440 m.length _ (at 1) b.0) (text_told is_utf8 m.choices _ (at 2) b.1)) (text_told is_title m.title _ (at 3) a.1)) (and_from _ _ (given_told 0 _ (at 4)) (given_told 0 _ (at 5))) in
+    let b = and_parts (is_length m.length) (is_choices m.length m.choices) a.0 in
+    let long : m.length ≡ nat_of (column r 5) = ap nat_of (at 1) in
+    let choices = text_told (is_choices (nat_of (column r 5))) m.choices _ (at 2) (sym (ap (λ n. is_choices n m.choices) long) ∙ b.1) in
+    let cells = and_from _ _ (and_from _ _ (and_from _ _ (number_told 1 1440 m.length _ (at 1) b.0) choices) (text_told is_title m.title _ (at 3) a.1)) (and_from _ _ (given_told 0 _ (at 4)) (given_told 0 _ (at 5))) in
     let both = and_from (are_meeting_cells r) (is_place_cell false (column r 10)) cells (place_told false p _ (at 6) placed) in
     (ap (λ b. if b then are_meeting_cells r && is_place_cell false (column r 10) else are_target_cells r && is_place_cell true (column r 10)) (given_told 0 _ (at 0)) ∙ both, at 7)
 action_told (suc k) m t p q r same h placed =

@@ -1,14 +1,13 @@
 -- Whether values are cells of columns, and rows those of tables, as a test of them where they lie tells.
-use Rattle.std.specs.Prelude.{ℕ, ◌+◌, pos, negsuc, zero, suc, Bool, true, false, not, ◌&&◌, nat_le, if◌then◌else◌, List, [], ◌∷◌, bytes_eq}
-use Rattle.std.specs.Str.{is_utf8}
+use Rattle.std.specs.Prelude.{ℕ, ◌+◌, pos, negsuc, zero, suc, Bool, true, false, not, ◌&&◌, nat_le, if◌then◌else◌, [], ◌∷◌}
 use Rattle.sqlite_value.specs.declared.value.Value.{Value}
 use Rattle.sqlite_value.specs.declared.value.Value.TheVariants.{Null, Int, Real, Text, Blob}
 use Rattle.sqlite_value.specs.Order.{Row, column}
 use Rattle.mr_model.specs.Texts as texts
 use Rattle.mr_model.specs.Texts.{within}
-use Rattle.mr_model.specs.Calendar.{is_date, date_text, date_in}
 use Rattle.mr_model.specs.Writes.{is_room_name, is_title, greatest_alternatives, greatest_count, greatest_time}
 use Rattle.mr_rows.specs.RowCells.{nat_of}
+use Rattle.mr_rows.specs.RowLimits.{is_day_text, is_choices}
 
 -- ---- values
 
@@ -28,10 +27,6 @@ is_text passes (Int n) = false
 is_text passes (Real x) = false
 is_text passes (Text t) = passes t
 is_text passes (Blob b) = false
-
--- a text that is a day's
-abbrev pub is_day_text : texts.Text → Bool
-is_day_text t = is_date (date_in t) && bytes_eq (date_text (date_in t)) t
 
 abbrev pub is_empty_text : texts.Text → Bool
 is_empty_text [] = true
@@ -101,7 +96,7 @@ are_vector_cells r =
 -- what a row of `log` has of a write that books, and of one that cancels
 abbrev pub are_meeting_cells : Row → Bool
 are_meeting_cells r =
-    is_number 1 1440 (column r 5) && is_text is_utf8 (column r 6) && is_text is_title (column r 7)
+    is_number 1 1440 (column r 5) && is_text (is_choices (nat_of (column r 5))) (column r 6) && is_text is_title (column r 7)
     && (is_number 0 0 (column r 8) && is_number 0 0 (column r 9))
 
 abbrev pub are_target_cells : Row → Bool

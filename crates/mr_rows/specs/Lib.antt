@@ -1,10 +1,11 @@
--- A reader of the contracts trusts Schema, Shelf, RowCells, RowLimits, CellLimits, Form, Database, Reads, RowQuestions, Shown, ChangeParts and TakeLaws. Meaning serves proofs alone.
+-- A reader of the contracts trusts Schema, Shelf, RowCells, RowLimits, CellLimits, TableLimits, Form, Database, Reads, RowQuestions, Shown, ChangeParts and TakeLaws. Meaning serves proofs alone.
 pub mod Schema
 pub mod Meaning
 pub mod Shelf
 pub mod RowCells
 pub mod RowLimits
 pub mod CellLimits
+pub mod TableLimits
 pub mod Form
 pub mod Database
 pub mod Shown

@@ -1,8 +1,8 @@
 -- The limits of plain rows: a row within them can be read as one of its type.
-use Rattle.std.specs.Prelude.{ℕ, ◌+◌, ◌^◌, Bool, true, not, ◌&&◌, nat_le, nat_lt}
+use Rattle.std.specs.Prelude.{ℕ, zero, suc, ◌+◌, ◌^◌, Bool, true, false, not, ◌&&◌, ◌||◌, ◌==◌, nat_le, nat_lt, length, take, drop, slice_index, bytes_eq}
 use Rattle.std.specs.Str.{is_utf8}
 use Rattle.mr_model.specs.Texts.{Text, within}
-use Rattle.mr_model.specs.Calendar.{Date, is_date}
+use Rattle.mr_model.specs.Calendar.{Date, is_date, date_text, date_in, time_text, time_in}
 use Rattle.mr_model.specs.Writes.{is_server, is_count, is_time, is_id, is_room_name, is_title, is_length, greatest_alternatives, greatest_count, greatest_time}
 use Rattle.mr_model.specs.Replay.{Place, Taken, Logged, Done, Void}
 use Rattle.mr_model.specs.Tables.{MetaRow, VectorRow, MeetingCells, ActionCells, OfMeeting, OfCancel, LogRow, BookingRow, ErrorRow, CancelledRow, CancelRow}
@@ -24,9 +24,28 @@ is_vector_row v = is_server v.server && is_count v.count && is_time v.last_time 
 
 -- ---- a write: its action and its place
 
--- (choices are a text)
+-- a text that is a day's, and one of a minute from which so many are left on its day
+abbrev pub is_day_text : Text → Bool
+is_day_text t = is_date (date_in t) && bytes_eq (date_text (date_in t)) t
+
+abbrev pub is_start_text : ℕ → Text → Bool
+is_start_text n t = nat_lt (time_in t) 1440 && bytes_eq (time_text (time_in t)) t && nat_le (time_in t + n) 1440
+
+-- a slot of this length, which ends on its day, stands in front
+abbrev pub begins_with_slot : ℕ → Text → Bool
+begins_with_slot n t = is_day_text (take 10 t) && slice_index t 10 == 32 && is_start_text n (take 5 (drop 11 t))
+
+-- such slots, so many at most, with a space between each two
+unfoldable pub are_choices : ℕ → ℕ → Text → Bool
+are_choices zero n t = false
+are_choices (suc most) n t = begins_with_slot n t && (nat_le (length t) 16 || (slice_index t 16 == 32 && are_choices most n (drop 17 t)))
+
+-- the wish and its alternatives
+abbrev pub is_choices : ℕ → Text → Bool
+is_choices n t = is_utf8 t && are_choices 17 n t
+
 abbrev pub is_meeting_cells : MeetingCells → Bool
-is_meeting_cells m = is_length m.length && is_utf8 m.choices && is_title m.title
+is_meeting_cells m = is_length m.length && is_choices m.length m.choices && is_title m.title
 
 abbrev pub is_action_cells : ActionCells → Bool
 is_action_cells (OfMeeting m) = is_meeting_cells m

@@ -4,12 +4,11 @@ ghost use Rattle.sqlite_value.specs.Order.{column, bytes};
 ghost use Rattle.mr_replay.specs.Places.{place_seen};
 ghost use Rattle.mr_tables.specs.Cells.{action_cells};
 ghost use Rattle.mr_rows.specs.RowCells.{nat_of, whole_of, log_in, place_in};
+ghost use Rattle.mr_rows.specs.RowLimits.{is_choices};
 ghost use Rattle.mr_rows.specs.CellLimits.{is_number, is_text, is_empty_text, is_place_cell, are_meeting_cells, are_target_cells, are_action_cells};
 
-use crate::cells::{
-    has_id, has_number, has_text, has_title, read_id, read_number, read_place, read_text,
-    read_title,
-};
+use crate::cells::{has_id, has_number, has_title, read_id, read_number, read_place, read_title};
+use crate::choices::{has_choices, read_choices};
 use mr_base::{MINUTES_OF_A_DAY, WriteId};
 use mr_replay::Place;
 use mr_tables::{ActionCells, MeetingCells};
@@ -68,7 +67,7 @@ fn read_meeting(alloc: Global, row: &Row) -> Result<MeetingCells, Error>
     ensures refused { IfErr result (λ e. e ≢ Error.SqliteFailure ErrorCode.OutOfMemory → are_meeting_cells row.now ≡ false) }
 {
     let length = read_number(row, 5, 1, u64::from(MINUTES_OF_A_DAY))?;
-    let choices = read_text(row, 6)?;
+    let choices = read_choices(row, 6, length as u32)?;
     let title = read_title(alloc, row, 7)?;
     if !has_no_target(row) {
         return Err(Error::IntegralValueOutOfRange(8));
@@ -80,14 +79,21 @@ fn read_meeting(alloc: Global, row: &Row) -> Result<MeetingCells, Error>
     })
 }
 
+/// Whether there are a length and choices of it.
+fn has_slots(row: &Row) -> bool
+    ensures { result ≡ (is_number 1 1440 (column row.now 5) && is_text (is_choices (nat_of (column row.now 5))) (column row.now 6)) }
+{
+    match read_number(row, 5, 1, u64::from(MINUTES_OF_A_DAY)) {
+        Ok(length) => has_choices(row, 6, length as u32),
+        Err(_) => false,
+    }
+}
+
 /// Whether there is such a meeting.
 fn has_meeting(row: &Row) -> bool
     ensures { result ≡ are_meeting_cells row.now }
 {
-    has_number(row, 5, 1, u64::from(MINUTES_OF_A_DAY))
-        && has_text(row, 6)
-        && has_title(row, 7)
-        && has_no_target(row)
+    has_slots(row) && has_title(row, 7) && has_no_target(row)
 }
 
 /// Whether there is no meeting.

@@ -7,8 +7,8 @@ ghost use Rattle.mr_model.specs.Calendar.{is_date, date_in, date_text};
 ghost use Rattle.mr_model.specs.Writes.{is_server, is_count, is_id, is_time, is_room_name, is_title};
 ghost use Rattle.mr_replay.specs.Places.{place_seen};
 ghost use Rattle.mr_rows.specs.RowCells.{flag_number, nat_of, whole_of, place_in, place_number};
-ghost use Rattle.mr_rows.specs.RowLimits.{is_small, is_place};
-ghost use Rattle.mr_rows.specs.CellLimits.{is_number, is_text, is_day_text, is_server_cell, is_count_cell, is_time_cell, is_commit_cell, is_mark_cell, is_id_cells, is_place_cell};
+ghost use Rattle.mr_rows.specs.RowLimits.{is_small, is_place, is_day_text};
+ghost use Rattle.mr_rows.specs.CellLimits.{is_number, is_text, is_server_cell, is_count_cell, is_time_cell, is_commit_cell, is_mark_cell, is_id_cells, is_place_cell};
 
 use mr_base::{
     Day, GREATEST_COMMIT, GREATEST_COUNT, GREATEST_SERVER, GREATEST_TIME, Refusal, RoomName,
@@ -304,13 +304,6 @@ pub fn read_text(row: &Row, at: usize) -> Result<String, Error>
     ensures refused { IfErr result (λ e. e ≢ Error.SqliteFailure ErrorCode.OutOfMemory → is_text is_utf8 (column row.now at) ≡ false) }
 {
     row.get(at)
-}
-
-/// Whether this column has a text.
-pub(crate) fn has_text(row: &Row, at: usize) -> bool
-    ensures { result ≡ is_text is_utf8 (column row.now at) }
-{
-    text_in(row, at).is_ok()
 }
 
 /// The mark in this column, which is 0 or 1.

@@ -3,12 +3,15 @@
 //! proved.
 #![tactic(auto)]
 
+ghost use Rattle.mr_rows.specs.TableLimits.{LimitsAreKept};
+
 mod actions;
 pub mod all_tables;
 pub mod asked_rows;
 mod cancel_rows;
 pub mod cells;
 pub mod changes;
+pub mod choices;
 pub mod found;
 mod log_stamps;
 pub mod meta_row;
@@ -31,3 +34,8 @@ pub use row_tests::RowTest;
 pub use stored_rows::{StoredRow, read_all};
 pub use table_rows::compare_ids;
 pub use whole::all_rows;
+
+/// The rows of a replica's tables are within the limits for which each row is tested, so that none is refused.
+pub fn limits_law()
+    ensures { LimitsAreKept }
+{}

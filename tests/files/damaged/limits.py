@@ -13,10 +13,19 @@ def is_number(table, column, cell):
     return isinstance(cell, int) and LEAST.get(column, 0) <= cell <= greatest(table, column)
 
 
+def are_choices(text, length):
+    """The text of at most 17 slots that end on their days, parted by one space."""
+    slots = [text[at:at + 17] for at in range(0, len(text), 17)]
+    return (1 <= len(slots) <= 17 and all(slot[16:] == ' ' for slot in slots[:-1]) and len(slots[-1]) == 16
+            and all(slot[10] == ' ' and oracle.day_of(slot[:10]) and (start := oracle.minute_of(slot[11:16])) is not None and start + length <= 1440
+                    for slot in slots))
+
+
 def is_of_kind(row):
     """A row of the log has what its kind of write has, and nothing of the other kind."""
     if row['kind'] == 0:
-        return (row['length'] >= 1 and oracle.is_title(row['title']) and row['tserver'] == row['tn'] == 0 and row['place'] >= -1)
+        return (row['length'] >= 1 and are_choices(row['choices'], row['length']) and oracle.is_title(row['title'])
+                and row['tserver'] == row['tn'] == 0 and row['place'] >= -1)
     return (row['length'] == 0 and row['choices'] == row['title'] == '' and row['tserver'] >= 1 and row['tn'] >= 1
             and row['place'] in (-2, -3))
 

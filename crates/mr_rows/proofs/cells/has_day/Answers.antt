@@ -1,6 +1,7 @@
 use Rattle.std.proofs.Common.{◌∙◌}
 use Rattle.sqlite_value.specs.Order.{column}
-use Rattle.mr_rows.specs.CellLimits.{is_text, is_day_text}
+use Rattle.mr_rows.specs.CellLimits.{is_text}
+use Rattle.mr_rows.specs.RowLimits.{is_day_text}
 use Rattle.mr_rows.proofs.CellLemmas.{told_by}
 use Rattle.mr_rows.proofs.cells.has_day.Goals as goal
 

@@ -3,7 +3,8 @@ use Rattle.std.specs.Str.{is_utf8}
 use Rattle.sqlite_value.specs.declared.value.Value.TheVariants.{Text}
 use Rattle.sqlite_value.specs.Order.{column, bytes}
 use Rattle.mr_model.specs.Calendar.{date_in}
-use Rattle.mr_rows.specs.CellLimits.{is_text, is_day_text}
+use Rattle.mr_rows.specs.CellLimits.{is_text}
+use Rattle.mr_rows.specs.RowLimits.{is_day_text}
 use Rattle.mr_rows.proofs.CellLemmas.{day_read, day_spelled, day_told, no_day, no_text, day_utf8, on_err}
 use Rattle.mr_rows.proofs.cells.read_day.Goals as goal
 
