@@ -10,3 +10,4 @@ pub mod PairLemmas
 pub mod Held
 pub mod FilledDatabase
 pub mod MoveLemmas
+pub mod FirstShownRows

@@ -1,13 +1,16 @@
 -- Rows of the first schema as the cells of their tables, and back, where the second schema has other ones; and their limits.
-use Rattle.std.specs.Prelude.{pos, Bool, true, false, ◌&&◌, nat_le, [], ◌∷◌}
-use Rattle.sqlite_value.specs.declared.value.Value.TheVariants.{Int, Text}
+use Rattle.std.specs.Prelude.{pos, negsuc, zero, suc, Bool, true, false, ◌&&◌, nat_le, [], ◌∷◌}
+use Rattle.std.specs.Str.{is_utf8}
+use Rattle.sqlite_value.specs.declared.value.Value.{Value}
+use Rattle.sqlite_value.specs.declared.value.Value.TheVariants.{Null, Int, Real, Text, Blob}
 use Rattle.sqlite_value.specs.Order.{Row, column, bytes}
-use Rattle.mr_model.specs.Writes.{is_server, is_room_name, is_title}
+use Rattle.mr_model.specs.Writes.{is_server, is_count, is_time, is_room_name, is_title, is_length}
 use Rattle.mr_model.specs.Replay.{Place, Taken, Logged, Done, Void}
 use Rattle.mr_model.specs.Tables.{MetaRow}
 use Rattle.mr_model.specs.First.{WriteRow, FirstUndoRow}
 use Rattle.mr_rows.specs.RowCells.{meta_cells_of, nat_of, whole_of, place_number, place_in}
-use Rattle.mr_rows.specs.RowLimits.{is_small}
+use Rattle.mr_rows.specs.RowLimits.{is_commit}
+use Rattle.mr_rows.specs.CellLimits.{is_number, is_text, is_time_cell, is_commit_cell, is_id_cells}
 
 -- the second cell is the number of the schema
 abbrev pub first_meta_cells : MetaRow → Row
@@ -37,7 +40,9 @@ undo_in r = record { server = nat_of (column r 1); n = nat_of (column r 2); plac
 -- ---- limits
 
 abbrev pub is_write_row : WriteRow → Bool
-is_write_row w = is_server w.server && is_small w.n && is_room_name w.room && is_small w.length && is_title w.title
+is_write_row w =
+    is_server w.server && is_count w.n && is_time w.time && is_room_name w.room && is_length w.length && is_utf8 w.choices && is_title w.title
+    && is_commit w.seq
 
 -- of a booking with at most eight alternatives
 abbrev pub is_first_place : Place → Bool
@@ -47,4 +52,27 @@ is_first_place Done = false
 is_first_place Void = false
 
 abbrev pub is_undo_row : FirstUndoRow → Bool
-is_undo_row u = is_server u.server && is_small u.n && is_first_place u.place
+is_undo_row u = is_server u.server && is_count u.n && is_first_place u.place
+
+-- ---- the same, as a test of cells where they lie tells
+
+abbrev pub is_first_place_cell : Value → Bool
+is_first_place_cell Null = false
+is_first_place_cell (Int (pos k)) = nat_le k 8
+is_first_place_cell (Int (negsuc zero)) = true
+is_first_place_cell (Int (negsuc (suc n))) = false
+is_first_place_cell (Real x) = false
+is_first_place_cell (Text t) = false
+is_first_place_cell (Blob b) = false
+
+abbrev pub are_first_meeting_cells : Row → Bool
+are_first_meeting_cells r = is_number 1 1440 (column r 4) && is_text is_utf8 (column r 5) && is_text is_title (column r 6)
+
+-- (columns are counted from 0, as queries show them)
+abbrev pub are_write_cells : Row → Bool
+are_write_cells r =
+    is_id_cells (column r 0) (column r 1) && is_time_cell (column r 2) && is_text is_room_name (column r 3) && are_first_meeting_cells r
+    && is_commit_cell (column r 7)
+
+abbrev pub are_undo_cells : Row → Bool
+are_undo_cells r = is_id_cells (column r 0) (column r 1) && is_first_place_cell (column r 2)

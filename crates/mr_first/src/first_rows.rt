@@ -1,4 +1,4 @@
-ghost use Rattle.std.specs.Prelude.{◌≡◌, ℕ, [], ◌∷◌, false, length, map, List, IfOk, IsTrue, refl};
+ghost use Rattle.std.specs.Prelude.{◌≡◌, ◌≢◌, ℕ, [], ◌∷◌, false, length, map, List, IfOk, IfErr, IsTrue, refl};
 ghost use Rattle.std.specs.List.Sorted.{IsPermutation};
 ghost use Rattle.sqlite_value.specs.declared.value.Value.TheVariants.{Null};
 ghost use Rattle.sqlite.specs.State.{Survives};
@@ -19,7 +19,7 @@ use mr_rows::StoredRow;
 use mr_rows::numbers::Number;
 use mr_rows::puts::day_text;
 use mr_tables::{BookingRow, ErrorRow, VectorRow};
-use sqlite::{Alter, Connection, Error, Row, Transaction, params};
+use sqlite::{Alter, Connection, Error, ErrorCode, Row, Transaction, params};
 use std::alloc::Global;
 
 /// A row of a table of the first schema that has one row for each key.
@@ -40,7 +40,8 @@ pub trait FirstRow: Drop {
     fn read(alloc: Global, row: &Row) -> Result<Self, Error>
         ensures row { IfOk result (λ r. r ≡ form.row_in (Null ∷ row.now)) }
         ensures cells { IfOk result (λ r. form.cells r ≡ columns_from 0 (length form.table.columns) row.now) }
-        ensures within { IfOk result (λ r. IsTrue (form.within r)) };
+        ensures within { IfOk result (λ r. IsTrue (form.within r)) }
+        ensures refused { IfErr result (λ e. e ≢ Error.SqliteFailure ErrorCode.OutOfMemory → ¬ IsShownAs form row.now) };
 
     /// All rows of the table.
     fn select_all<S: Alter>(conn: &mut Connection<S>) -> Result<Vec<Row>, Error>

@@ -1,4 +1,4 @@
-ghost use Rattle.std.specs.Prelude.{◌≡◌, false, OnOk};
+ghost use Rattle.std.specs.Prelude.{◌≡◌, ◌≢◌, false, IfErr, OnOk};
 ghost use Rattle.std.specs.List.{All};
 ghost use Rattle.sqlite.specs.Held.{state};
 ghost use Rattle.mr_rows.specs.Form.{room_form, vector_form, booking_form, error_form};
@@ -13,7 +13,7 @@ use crate::queries::select_all_meta;
 use crate::rows::{FirstUndoRow, WriteRow};
 use mr_base::RoomName;
 use mr_tables::{BookingRow, ErrorRow, MetaRow, VectorRow};
-use sqlite::{Alter, Connection, Error, Row};
+use sqlite::{Alter, Connection, Error, ErrorCode, Row};
 use std::alloc::Global;
 
 // Of each table all rows are read, so that a row that breaks the table's rules or the limits is found.
@@ -29,7 +29,8 @@ fn find_meta<S: Alter>(conn: &mut Connection<S>) -> Result<Option<MetaRow>, Erro
 }
 
 fn are_stored<R: FirstRow>(alloc: Global, rows: &[Row]) -> Result<(), Error>
-    ensures { OnOk result (All (IsShownAs R.form) rows.now) }
+    ensures read { OnOk result (All (IsShownAs R.form) rows.now) }
+    ensures refused { IfErr result (λ e. e ≢ Error.SqliteFailure ErrorCode.OutOfMemory → ¬ All (IsShownAs R.form) rows.now) }
 {
     'rows: for row in rows {
         R::read(alloc, row)?;

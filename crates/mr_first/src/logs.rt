@@ -1,14 +1,12 @@
-ghost use Rattle.std.specs.Prelude.{◌≡◌, [], ◌∷◌, false, map, pos, IfOk, OnOk, IsTrue, refl};
+ghost use Rattle.std.specs.Prelude.{◌≡◌, ◌≢◌, ◌∷◌, false, map, IfOk, IfErr, OnOk, IsTrue, refl};
 ghost use Rattle.std.specs.List.Sorted.{IsPermutation, IsSorted};
-ghost use Rattle.sqlite_value.specs.declared.value.Value.TheVariants.{Null, Int, Text};
+ghost use Rattle.sqlite_value.specs.declared.value.Value.TheVariants.{Null};
 ghost use Rattle.sqlite_value.specs.Order.{column, bytes};
 ghost use Rattle.sqlite.specs.Held.{state};
 ghost use Rattle.mr_model.specs.Writes.{Id};
 ghost use Rattle.mr_base.specs.Ids.{id_cmp};
 ghost use Rattle.mr_rows.specs.RowCells.{nat_of};
-ghost use Rattle.mr_rows.specs.RowLimits.{is_meeting_cells};
-ghost use Rattle.mr_rows.specs.Shown.{columns_from};
-ghost use Rattle.mr_first.specs.FirstCells.{write_row_from, undo_in};
+ghost use Rattle.mr_first.specs.FirstCells.{write_row_from, undo_in, are_first_meeting_cells, are_write_cells, are_undo_cells};
 ghost use Rattle.mr_first.specs.Forms.{write_id, undo_id, write_form, undo_form};
 ghost use Rattle.mr_first.specs.FirstDatabase.{ReadsFirst, first_in};
 ghost use Rattle.mr_first.specs.FirstParts.{put_writes, put_undo};
@@ -17,11 +15,14 @@ use crate::cells::read_first_place;
 use crate::first_rows::{FirstRow, is_id_before};
 use crate::queries::ask_first;
 use crate::rows::{FirstUndoRow, WriteRow};
-use mr_rows::cells::{read_name, read_server, read_text, read_title, read_u32, read_u64};
+use mr_base::MINUTES_OF_A_DAY;
+use mr_rows::cells::{
+    read_commit, read_id, read_name, read_number, read_text, read_time, read_title,
+};
 use mr_rows::compare_ids;
 use mr_rows::numbers::{Number, PlaceNumber};
 use mr_tables::MeetingCells;
-use sqlite::{Alter, Connection, Error, Row, Transaction, params};
+use sqlite::{Alter, Connection, Error, ErrorCode, Row, Transaction, params};
 use std::alloc::{AllocError, Global};
 
 // The columns are counted from 0, in the order of the table.
@@ -38,20 +39,7 @@ impl FirstRow for WriteRow {
     }
 
     fn read(alloc: Global, row: &Row) -> Result<WriteRow, Error> {
-        let server = read_server(row, 0)?;
-        let n = read_u32(row, 1)?;
-        let time = read_u64(row, 2)?;
-        let room = read_name(alloc, row, 3)?;
-        let meeting = read_meeting(alloc, row)?;
-        let seq = read_u64(row, 7)?;
-        Ok(WriteRow {
-            server,
-            n,
-            time,
-            room,
-            meeting,
-            seq,
-        })
+        read_write(alloc, row)
     }
 
     fn select_all<S: Alter>(conn: &mut Connection<S>) -> Result<Vec<Row>, Error> {
@@ -87,18 +75,38 @@ impl FirstRow for WriteRow {
     ghost put_more = { λ x xs t. refl };
 }
 
+fn read_write(alloc: Global, row: &Row) -> Result<WriteRow, Error>
+    ensures row { IfOk result (λ r. r ≡ write_row_from (Null ∷ row.now)) }
+    ensures told { IfOk result (λ _. IsTrue (are_write_cells row.now)) }
+    ensures refused { IfErr result (λ e. e ≢ Error.SqliteFailure ErrorCode.OutOfMemory → are_write_cells row.now ≡ false) }
+{
+    let id = read_id(row, 0)?;
+    let time = read_time(row, 2)?;
+    let room = read_name(alloc, row, 3)?;
+    let meeting = read_meeting(alloc, row)?;
+    let seq = read_commit(row, 7)?;
+    Ok(WriteRow {
+        server: id.server,
+        n: id.n,
+        time,
+        room,
+        meeting,
+        seq,
+    })
+}
+
 /// The meeting in the columns 4 to 6 of a row of `write_log`.
 fn read_meeting(alloc: Global, row: &Row) -> Result<MeetingCells, Error>
     ensures meeting { IfOk result
         (λ m. m ≡ record { length = nat_of (column row.now 4); choices = bytes (column row.now 5); title = bytes (column row.now 6) }) }
-    ensures cells { IfOk result (λ m. Int (pos m.length) ∷ Text m.choices ∷ Text m.title ∷ [] ≡ columns_from 4 3 row.now) }
-    ensures within { IfOk result (λ m. IsTrue (is_meeting_cells m)) }
+    ensures told { IfOk result (λ _. IsTrue (are_first_meeting_cells row.now)) }
+    ensures refused { IfErr result (λ e. e ≢ Error.SqliteFailure ErrorCode.OutOfMemory → are_first_meeting_cells row.now ≡ false) }
 {
-    let length = read_u32(row, 4)?;
+    let length = read_number(row, 4, 1, u64::from(MINUTES_OF_A_DAY))?;
     let choices = read_text(row, 5)?;
     let title = read_title(alloc, row, 6)?;
     Ok(MeetingCells {
-        length,
+        length: length as u32,
         choices,
         title,
     })
@@ -116,10 +124,7 @@ impl FirstRow for FirstUndoRow {
     }
 
     fn read(_alloc: Global, row: &Row) -> Result<FirstUndoRow, Error> {
-        let server = read_server(row, 0)?;
-        let n = read_u32(row, 1)?;
-        let place = read_first_place(row, 2)?;
-        Ok(FirstUndoRow { server, n, place })
+        read_undo(row)
     }
 
     fn select_all<S: Alter>(conn: &mut Connection<S>) -> Result<Vec<Row>, Error> {
@@ -142,6 +147,20 @@ impl FirstRow for FirstUndoRow {
     ghost put_none = { λ t. refl };
 
     ghost put_more = { λ x xs t. refl };
+}
+
+fn read_undo(row: &Row) -> Result<FirstUndoRow, Error>
+    ensures row { IfOk result (λ r. r ≡ undo_in (Null ∷ row.now)) }
+    ensures told { IfOk result (λ _. IsTrue (are_undo_cells row.now)) }
+    ensures refused { IfErr result (λ _. are_undo_cells row.now ≡ false) }
+{
+    let id = read_id(row, 0)?;
+    let place = read_first_place(row, 2)?;
+    Ok(FirstUndoRow {
+        server: id.server,
+        n: id.n,
+        place,
+    })
 }
 
 /// The rows of an answer, in its order.

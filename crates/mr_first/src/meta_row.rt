@@ -1,4 +1,4 @@
-ghost use Rattle.std.specs.Prelude.{◌≡◌, ◌∷◌, false, map, IfOk, OnOk};
+ghost use Rattle.std.specs.Prelude.{◌≡◌, ◌≤◌, ◌∷◌, false, length, map, IfOk, IfErr, OnOk};
 ghost use Rattle.std.specs.List.{All};
 ghost use Rattle.sqlite_value.specs.declared.value.Value.TheVariants.{Null};
 ghost use Rattle.sqlite.specs.Held.{state};
@@ -16,6 +16,7 @@ use sqlite::{Alter, Connection, Error, Row};
 pub(crate) fn only_meta(rows: &[Row]) -> Result<Option<MetaRow>, Error>
     ensures whole { OnOk result (All (IsShownAs first_meta_form) rows.now) }
     ensures row { IfOk result (λ m. map (λ row. meta_in (Null ∷ row)) rows.now ≡ listed m) }
+    ensures refused { IfErr result (λ _. length rows.now ≤ 1 → ¬ All (IsShownAs first_meta_form) rows.now) }
 {
     match rows {
         [] => Ok(None),

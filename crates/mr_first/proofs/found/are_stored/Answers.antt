@@ -10,5 +10,5 @@ rows-preserved g c =
     let within = subst (λ row. IsTrue (form.within row)) read.row read.within in
     one_more (IsShownAs form) _ c.rows.row-index c.row-item.result (search rules) (search rules) (ap form.cells (sym read.row) ∙ read.cells, within) c.rows.invariant
 
-pub returns : goal.returns
-returns g c = all_of (IsShownAs g.R.FirstRow.form) _ c.rows.row-index (search (rules, arith)) c.rows.invariant
+pub returns-clause-read : goal.returns-clause-read
+returns-clause-read g c = all_of (IsShownAs g.R.FirstRow.form) _ c.rows.row-index (search (rules, arith)) c.rows.invariant

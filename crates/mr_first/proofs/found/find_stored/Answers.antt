@@ -16,4 +16,4 @@ returns-clause-looks g c =
     let shown = c.in_ok-rows.rows.items in
     let same : c.deref.result.now ≡ shown = search rules in
     looks_made old (state g.S.Store c.select_all.new.conn) c.in_ok-rows.rows (λ rows. IsPermutation (map (columns_from 1 (length form.table.columns)) (old.now.trees form.table.tree)) rows.items) c.are_stored.result _
-    (λ here read. found_so form (columns_from 1 (length form.table.columns)) (old.now.trees form.table.tree) shown c.are_stored.result g.met.R.FirstRow.stored_is read (rw same at c.are_stored.ensures)) c.in_ok-rows.ensures.looks
+    (λ here read. found_so form (columns_from 1 (length form.table.columns)) (old.now.trees form.table.tree) shown c.are_stored.result g.met.R.FirstRow.stored_is read (rw same at c.are_stored.ensures.read)) c.in_ok-rows.ensures.looks
