@@ -13,29 +13,29 @@ use mr_base::{Refusal, WriteId};
 use mr_replay::{Board, Row};
 use std::alloc::Global;
 
-/// Tables in which the rows of an id that tell a board are found.
+/// Tables of which the rows that tell a board are found by their ids.
 pub trait BoardTables {
     ghost tables: { Self → Tables };
 
-    /// Its row of `booking`.
+    /// The row of `booking` with this id.
     fn booking(&self, id: WriteId) -> Option<&BookingRow>
         ensures { option_copied result ≡ row_of booking_id id (tables self.now).booking };
 
-    /// Its row of `errorlog`.
+    /// That of `errorlog`.
     fn error(&self, id: WriteId) -> Option<&ErrorRow>
         ensures { option_copied result ≡ row_of error_id id (tables self.now).errorlog };
 
-    /// Its row of `cancelled`.
+    /// That of `cancelled`.
     fn cancelled(&self, id: WriteId) -> Option<&CancelledRow>
         ensures { option_copied result ≡ row_of cancelled_id id (tables self.now).cancelled };
 
-    /// Its row of `cancels`.
+    /// That of `cancels`.
     fn cancel(&self, id: WriteId) -> Option<&CancelRow>
         ensures { option_copied result ≡ row_of cancel_id id (tables self.now).cancels };
 }
 
-/// Has the board of the tables from before the change tell the tables after it, which looks at the ids alone that the change names. It
-/// is refused if one of their rows is out of the limits, or without memory; the board is then one of no tables, and of no use.
+/// Makes of the board of some tables that of the tables after a change, which `tables` are. It looks at the ids alone that the change
+/// names. It is refused if one of their rows is out of the limits, or if there is no memory; the board is then of no use.
 pub fn change_board<T: BoardTables>(
     board: &mut Board,
     alloc: Global,
