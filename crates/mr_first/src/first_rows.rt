@@ -1,15 +1,23 @@
 ghost use Rattle.std.specs.Prelude.{◌≡◌, ◌≢◌, ℕ, [], ◌∷◌, false, length, map, List, IfOk, IfErr, IsTrue, refl};
-ghost use Rattle.std.specs.List.Sorted.{IsPermutation};
+ghost use Rattle.std.specs.List.Sorted.{IsPermutation, IsSorted};
+ghost use Rattle.std.specs.Cmp.{IsTotalOrder};
+ghost use Rattle.std.specs.Cmp.Lexicographic.{slice_cmp};
+ghost use Rattle.std.specs.Ordering.{nat_cmp};
+ghost use Rattle.std.specs.declared.cmp.Ordering.{Ordering as Order};
 ghost use Rattle.sqlite_value.specs.declared.value.Value.TheVariants.{Null};
+ghost use Rattle.sqlite_value.specs.Order.{Row as Cells};
+ghost use Rattle.sqlite_trees.specs.Tree.{Trees};
 ghost use Rattle.sqlite.specs.State.{Survives};
 ghost use Rattle.sqlite.specs.Held.{state};
 ghost use Rattle.mr_model.specs.Texts.{Text};
 ghost use Rattle.mr_model.specs.Writes.{Id};
+ghost use Rattle.mr_model.specs.Queries.{booking_id, error_id};
 ghost use Rattle.mr_model.specs.First.{FirstTables};
+ghost use Rattle.mr_base.specs.Ids.{id_cmp};
 ghost use Rattle.mr_tables.specs.Change.{id_before};
 ghost use Rattle.mr_rows.specs.Form.{Form, room_form, vector_form, booking_form, error_form};
 ghost use Rattle.mr_rows.specs.Shown.{columns_from, IsShownAs, IsStoredAs};
-ghost use Rattle.mr_first.specs.FirstDatabase.{MakesFirst, LooksFirst, first_in};
+ghost use Rattle.mr_first.specs.FirstDatabase.{AreHeldFirst, MakesFirst, LooksFirst, first_in};
 ghost use Rattle.mr_first.specs.FirstParts.{put_first_rooms, put_first_vector, put_first_bookings, put_first_errors};
 
 use crate::puts::{put_booking_cells, put_error_cells};
@@ -21,6 +29,7 @@ use mr_rows::puts::day_text;
 use mr_tables::{BookingRow, ErrorRow, VectorRow};
 use sqlite::{Alter, Connection, Error, ErrorCode, Row, Transaction, params};
 use std::alloc::Global;
+use std::cmp::Ordering;
 
 /// A row of a table of the first schema that has one row for each key.
 pub trait FirstRow: Drop {
@@ -29,12 +38,29 @@ pub trait FirstRow: Drop {
     // the table, its cells and its keys
     ghost form: { Form Self Key };
 
+    // the order of the keys
+    ghost order: { Self → Self → Order };
+
+    // of all first tables its own
+    ghost rows_of: { FirstTables → List Self };
+
     // the tables with these rows put, one after the other
     ghost put_in: { List Self → FirstTables → FirstTables };
 
     /// Whether one row's key is before the other's.
     fn is_before(a: &Self, b: &Self) -> bool
         ensures { result ≡ form.before (form.key a.now) (form.key b.now) };
+
+    /// Compares the keys.
+    fn compare(a: &Self, b: &Self) -> Ordering
+        ensures { result ≡ order a.now b.now };
+
+    /// The order is total, and the rows that a query shows, put in this order, are those that the table keeps.
+    fn keeps_order()
+        ensures total { IsTotalOrder order }
+        ensures kept { (trees : Trees) (shown : List Cells) (rows : List Self) → AreHeldFirst trees
+            → IsPermutation (map (columns_from 1 (length form.table.columns)) (trees form.table.tree)) shown
+            → IsPermutation (map (λ row. form.row_in (Null ∷ row)) shown) rows → IsSorted order rows → rows ≡ rows_of (first_in trees) };
 
     /// Reads a row that a query shows, with the columns in the order of the table.
     fn read(alloc: Global, row: &Row) -> Result<Self, Error>
@@ -72,11 +98,21 @@ impl FirstRow for RoomName {
 
     ghost form = { room_form };
 
+    ghost order = { slice_cmp nat_cmp };
+
+    ghost rows_of = { λ t. t.room };
+
     ghost put_in = { put_first_rooms };
 
     fn is_before(a: &RoomName, b: &RoomName) -> bool {
         *a < *b
     }
+
+    fn compare(a: &RoomName, b: &RoomName) -> Ordering {
+        <RoomName as StoredRow>::compare(a, b)
+    }
+
+    fn keeps_order() {}
 
     fn read(alloc: Global, row: &Row) -> Result<RoomName, Error> {
         <RoomName as StoredRow>::read(alloc, row)
@@ -105,11 +141,21 @@ impl FirstRow for VectorRow {
 
     ghost form = { vector_form };
 
+    ghost order = { λ a b. nat_cmp a.server b.server };
+
+    ghost rows_of = { λ t. t.vector };
+
     ghost put_in = { put_first_vector };
 
     fn is_before(a: &VectorRow, b: &VectorRow) -> bool {
         a.server < b.server
     }
+
+    fn compare(a: &VectorRow, b: &VectorRow) -> Ordering {
+        <VectorRow as StoredRow>::compare(a, b)
+    }
+
+    fn keeps_order() {}
 
     fn read(alloc: Global, row: &Row) -> Result<VectorRow, Error> {
         <VectorRow as StoredRow>::read(alloc, row)
@@ -139,11 +185,21 @@ impl FirstRow for BookingRow {
 
     ghost form = { booking_form };
 
+    ghost order = { λ a b. id_cmp (booking_id a) (booking_id b) };
+
+    ghost rows_of = { λ t. t.booking };
+
     ghost put_in = { put_first_bookings };
 
     fn is_before(a: &BookingRow, b: &BookingRow) -> bool {
         is_id_before((a.server, a.n), (b.server, b.n))
     }
+
+    fn compare(a: &BookingRow, b: &BookingRow) -> Ordering {
+        <BookingRow as StoredRow>::compare(a, b)
+    }
+
+    fn keeps_order() {}
 
     fn read(alloc: Global, row: &Row) -> Result<BookingRow, Error> {
         <BookingRow as StoredRow>::read(alloc, row)
@@ -173,11 +229,21 @@ impl FirstRow for ErrorRow {
 
     ghost form = { error_form };
 
+    ghost order = { λ a b. id_cmp (error_id a) (error_id b) };
+
+    ghost rows_of = { λ t. t.errorlog };
+
     ghost put_in = { put_first_errors };
 
     fn is_before(a: &ErrorRow, b: &ErrorRow) -> bool {
         is_id_before((a.server, a.n), (b.server, b.n))
     }
+
+    fn compare(a: &ErrorRow, b: &ErrorRow) -> Ordering {
+        <ErrorRow as StoredRow>::compare(a, b)
+    }
+
+    fn keeps_order() {}
 
     fn read(alloc: Global, row: &Row) -> Result<ErrorRow, Error> {
         <ErrorRow as StoredRow>::read(alloc, row)

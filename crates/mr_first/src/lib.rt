@@ -18,6 +18,7 @@ mod queries;
 mod rows;
 mod shared;
 mod tables;
+mod whole;
 
 pub use rows::{FirstUndoRow, WriteRow};
 pub use tables::First;

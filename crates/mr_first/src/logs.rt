@@ -1,14 +1,11 @@
-ghost use Rattle.std.specs.Prelude.{◌≡◌, ◌≢◌, ◌∷◌, false, map, IfOk, IfErr, OnOk, IsTrue, refl};
-ghost use Rattle.std.specs.List.Sorted.{IsPermutation, IsSorted};
+ghost use Rattle.std.specs.Prelude.{◌≡◌, ◌≢◌, ◌∷◌, false, IfOk, IfErr, IsTrue, refl};
 ghost use Rattle.sqlite_value.specs.declared.value.Value.TheVariants.{Null};
 ghost use Rattle.sqlite_value.specs.Order.{column, bytes};
-ghost use Rattle.sqlite.specs.Held.{state};
 ghost use Rattle.mr_model.specs.Writes.{Id};
 ghost use Rattle.mr_base.specs.Ids.{id_cmp};
 ghost use Rattle.mr_rows.specs.RowCells.{nat_of};
 ghost use Rattle.mr_first.specs.FirstCells.{write_row_from, undo_in, are_first_meeting_cells, are_write_cells, are_undo_cells};
 ghost use Rattle.mr_first.specs.Forms.{write_id, undo_id, write_form, undo_form};
-ghost use Rattle.mr_first.specs.FirstDatabase.{ReadsFirst, first_in};
 ghost use Rattle.mr_first.specs.FirstParts.{put_writes, put_undo};
 
 use crate::cells::read_first_place;
@@ -23,7 +20,8 @@ use mr_rows::compare_ids;
 use mr_rows::numbers::{Number, PlaceNumber};
 use mr_tables::MeetingCells;
 use sqlite::{Alter, Connection, Error, ErrorCode, Row, Transaction, params};
-use std::alloc::{AllocError, Global};
+use std::alloc::Global;
+use std::cmp::Ordering;
 
 // The columns are counted from 0, in the order of the table.
 
@@ -32,11 +30,21 @@ impl FirstRow for WriteRow {
 
     ghost form = { write_form };
 
+    ghost order = { λ a b. id_cmp (write_id a) (write_id b) };
+
+    ghost rows_of = { λ t. t.write_log };
+
     ghost put_in = { put_writes };
 
     fn is_before(a: &WriteRow, b: &WriteRow) -> bool {
         is_id_before((a.server, a.n), (b.server, b.n))
     }
+
+    fn compare(a: &WriteRow, b: &WriteRow) -> Ordering {
+        compare_ids((a.server, a.n), (b.server, b.n))
+    }
+
+    fn keeps_order() {}
 
     fn read(alloc: Global, row: &Row) -> Result<WriteRow, Error> {
         read_write(alloc, row)
@@ -117,11 +125,21 @@ impl FirstRow for FirstUndoRow {
 
     ghost form = { undo_form };
 
+    ghost order = { λ a b. id_cmp (undo_id a) (undo_id b) };
+
+    ghost rows_of = { λ t. t.undo };
+
     ghost put_in = { put_undo };
 
     fn is_before(a: &FirstUndoRow, b: &FirstUndoRow) -> bool {
         is_id_before((a.server, a.n), (b.server, b.n))
     }
+
+    fn compare(a: &FirstUndoRow, b: &FirstUndoRow) -> Ordering {
+        compare_ids((a.server, a.n), (b.server, b.n))
+    }
+
+    fn keeps_order() {}
 
     fn read(_alloc: Global, row: &Row) -> Result<FirstUndoRow, Error> {
         read_undo(row)
@@ -161,77 +179,4 @@ fn read_undo(row: &Row) -> Result<FirstUndoRow, Error>
         n: id.n,
         place,
     })
-}
-
-/// The rows of an answer, in its order.
-fn read_all<R: FirstRow>(alloc: Global, rows: &[Row]) -> Result<Vec<R>, Error>
-    ensures { IfOk result (λ out. out.items ≡ map (λ row. R.form.row_in (Null ∷ row)) rows.now) }
-{
-    let mut out = Vec::new(alloc);
-    'rows: for row in rows {
-        out.push(R::read(alloc, row)?)?;
-    }
-    Ok(out)
-}
-
-/// Sorts the rows by their ids.
-fn sort_writes(rows: &mut Vec<WriteRow>) -> Result<(), AllocError>
-    ensures same { IsPermutation rows.old.items rows.new.items }
-    ensures sorted { OnOk result (IsSorted (λ a b. id_cmp (write_id a) (write_id b)) rows.new.items) }
-{
-    rows.sort_by(|a, b| compare_ids((a.server, a.n), (b.server, b.n)))
-}
-
-/// The same of the other log.
-fn sort_undo(rows: &mut Vec<FirstUndoRow>) -> Result<(), AllocError>
-    ensures same { IsPermutation rows.old.items rows.new.items }
-    ensures sorted { OnOk result (IsSorted (λ a b. id_cmp (undo_id a) (undo_id b)) rows.new.items) }
-{
-    rows.sort_by(|a, b| compare_ids((a.server, a.n), (b.server, b.n)))
-}
-
-fn ordered_writes(alloc: Global, rows: &[Row]) -> Result<Vec<WriteRow>, Error>
-    ensures same { IfOk result (λ out. IsPermutation (map (λ row. write_row_from (Null ∷ row)) rows.now) out.items) }
-    ensures sorted { IfOk result (λ out. IsSorted (λ a b. id_cmp (write_id a) (write_id b)) out.items) }
-{
-    let mut out = read_all(alloc, rows)?;
-    sort_writes(&mut out)?;
-    Ok(out)
-}
-
-fn ordered_undo(alloc: Global, rows: &[Row]) -> Result<Vec<FirstUndoRow>, Error>
-    ensures same { IfOk result (λ out. IsPermutation (map (λ row. undo_in (Null ∷ row)) rows.now) out.items) }
-    ensures sorted { IfOk result (λ out. IsSorted (λ a b. id_cmp (undo_id a) (undo_id b)) out.items) }
-{
-    let mut out = read_all(alloc, rows)?;
-    sort_undo(&mut out)?;
-    Ok(out)
-}
-
-/// All rows of `write_log`, by id.
-pub(crate) fn all_writes<S: Alter>(
-    conn: &mut Connection<S>,
-    alloc: Global,
-) -> Result<Vec<WriteRow>, Error>
-    requires autocommit { conn.old.in_transaction ≡ false }
-    ensures autocommit { conn.new.in_transaction ≡ false }
-    ensures reads { ReadsFirst (state S.Store conn.old) (state S.Store conn.new) result
-        (λ rows. rows.items ≡ (first_in (state S.Store conn.old).now.trees).write_log) }
-{
-    let rows = WriteRow::select_all(conn)?;
-    ordered_writes(alloc, &rows)
-}
-
-/// All rows of `undo`, by id.
-pub(crate) fn all_undo<S: Alter>(
-    conn: &mut Connection<S>,
-    alloc: Global,
-) -> Result<Vec<FirstUndoRow>, Error>
-    requires autocommit { conn.old.in_transaction ≡ false }
-    ensures autocommit { conn.new.in_transaction ≡ false }
-    ensures reads { ReadsFirst (state S.Store conn.old) (state S.Store conn.new) result
-        (λ rows. rows.items ≡ (first_in (state S.Store conn.old).now.trees).undo) }
-{
-    let rows = FirstUndoRow::select_all(conn)?;
-    ordered_undo(alloc, &rows)
 }

@@ -7,11 +7,11 @@ ghost use Rattle.mr_model.specs.First.{moved, moved_log};
 ghost use Rattle.mr_first.specs.FirstDatabase.{ReadsFirst, first_in};
 ghost use Rattle.mr_first.specs.MovedUp.{MovedTablesOfReplicasAgree};
 
-use crate::logs::{all_undo, all_writes};
 use crate::meta_row::the_meta;
 use crate::pairs::moved_rows;
 use crate::rows::{FirstUndoRow, WriteRow};
 use crate::shared::read_shared;
+use crate::whole::all_rows;
 use mr_audit::do_tables_agree;
 use mr_tables::{LogRow, MetaRow, Tables};
 use sqlite::{Alter, Connection, Error, ErrorCode};
@@ -27,8 +27,8 @@ fn read_logs<S: Alter>(
     ensures reads { ReadsFirst (state S.Store conn.old) (state S.Store conn.new) result
         (λ r. (r.0.items ≡ (first_in (state S.Store conn.old).now.trees).write_log) × (r.1.items ≡ (first_in (state S.Store conn.old).now.trees).undo)) }
 {
-    let writes = all_writes(conn, alloc)?;
-    let undo = all_undo(conn, alloc)?;
+    let writes = all_rows(conn, alloc)?;
+    let undo = all_rows(conn, alloc)?;
     Ok((writes, undo))
 }
 

@@ -5,18 +5,18 @@ use Rattle.mr_first.proofs.ReadLemmas.{both_read}
 use Rattle.mr_first.proofs.shared.read_board.Goals as goal
 
 pub returns-in_err-booking-clause-reads : goal.returns-in_err-booking-clause-reads
-returns-in_err-booking-clause-reads g c = let read = c.all_bookings.ensures.reads in (read.0, read.1, λ clean kept. (search rules, search rules))
+returns-in_err-booking-clause-reads g c = let read = c.all_rows.ensures.reads in (read.0, read.1, λ clean kept. (search rules, search rules))
 
 pub returns-in_err-errorlog-clause-reads : goal.returns-in_err-errorlog-clause-reads
 returns-in_err-errorlog-clause-reads g c =
     let a = state g.S.Store c.args.conn.now in
     let read =
-    both_read a (state g.S.Store c.all_bookings.new.conn) (state g.S.Store c.all_errors.new.conn) c.in_ok-booking.booking (λ r. r.items ≡ (first_in a.now.trees).booking) c.all_errors.result
-    (λ db r. r.items ≡ (first_in db.trees).errorlog) c.in_ok-booking.ensures.reads c.all_errors.ensures.reads in
+    both_read a (state g.S.Store c.all_rows.new.conn) (state g.S.Store c.all_rows-2.new.conn) c.in_ok-booking.booking (λ r. r.items ≡ (first_in a.now.trees).booking) c.all_rows-2.result
+    (λ db r. r.items ≡ (first_in db.trees).errorlog) c.in_ok-booking.ensures.reads c.all_rows-2.ensures.reads in
     (read.0, read.1, λ clean kept. (search rules, search rules))
 
 pub returns-clause-reads : goal.returns-clause-reads
 returns-clause-reads g c =
     let a = state g.S.Store c.args.conn.now in
-    both_read a (state g.S.Store c.all_bookings.new.conn) (state g.S.Store c.all_errors.new.conn) c.in_ok-booking.booking (λ r. r.items ≡ (first_in a.now.trees).booking) (Ok c.in_ok-errorlog.errorlog)
+    both_read a (state g.S.Store c.all_rows.new.conn) (state g.S.Store c.all_rows-2.new.conn) c.in_ok-booking.booking (λ r. r.items ≡ (first_in a.now.trees).booking) (Ok c.in_ok-errorlog.errorlog)
     (λ db r. r.items ≡ (first_in db.trees).errorlog) c.in_ok-booking.ensures.reads c.in_ok-errorlog.ensures.reads
