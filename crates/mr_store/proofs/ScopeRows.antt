@@ -1,11 +1,12 @@
 -- Tables with the rows that a command needs have in its scope what all tables have.
-use Rattle.std.proofs.Common.{◌≡◌, Bool, true, false, cond, List, [], ◌∷◌, refl, ap, ◌∙◌}
+use Rattle.std.proofs.Common.{◌≡◌, ℕ, Bool, true, false, cond, List, [], ◌∷◌, map, take, refl, ap, ◌∙◌}
 use Rattle.std.specs.List.{filter}
 use Rattle.std.specs.Str.{bytes_eq}
-use Rattle.mr_model.specs.Texts.{Text}
-use Rattle.mr_model.specs.Scopes.{InRoom, OfTarget, in_scope, with_rows}
-use Rattle.mr_model.specs.Tables.{BookingRow, ErrorRow, CancelledRow, Tables}
-use Rattle.mr_model.specs.Queries.{booking_id, error_id, cancelled_id}
+use Rattle.mr_model.specs.Texts.{Text, within}
+use Rattle.mr_model.specs.Scopes.{InRoom, OfTarget, NextCommits, UpTo, Above, is_tentative, is_above, by_stamp, in_scope, with_rows}
+use Rattle.mr_model.specs.Tables.{LogRow, BookingRow, ErrorRow, CancelledRow, Tables}
+use Rattle.mr_model.specs.Queries.{booking_id, error_id, cancelled_id, log_id}
+use Rattle.mr_model.specs.Replica.{is_among}
 use Rattle.mr_model.specs.Writes.{Id, same_id}
 
 -- to pick twice is to pick once
@@ -30,3 +31,14 @@ target_scope t target booking errorlog cancelled b e c =
     (again (λ (x : BookingRow). same_id (booking_id x) target) t.booking booking b i)
     (again (λ (x : ErrorRow). same_id (error_id x) target) t.errorlog errorlog e i)
     (again (λ (x : CancelledRow). same_id (cancelled_id x) target) t.cancelled cancelled c i))
+
+pub commits_scope : (t : Tables) (k : ℕ) → in_scope (NextCommits k) (with_rows t (filter is_tentative t.log) [] [] t.cancelled) ≡ in_scope (NextCommits k) t
+commits_scope t k =
+    (λ i. with_rows t (take k (by_stamp (twice is_tentative t.log i))) [] []
+    (filter (λ c. is_among (cancelled_id c) (map log_id (take k (by_stamp (twice is_tentative t.log i))))) t.cancelled))
+
+pub up_to_scope : (t : Tables) (d : ℕ) → in_scope (UpTo d) (with_rows t (filter (λ row. within 1 d row.seq) t.log) [] [] []) ≡ in_scope (UpTo d) t
+up_to_scope t d = ap (λ logs. with_rows t logs [] [] []) (twice (λ (row : LogRow). within 1 d row.seq) t.log)
+
+pub above_scope : (t : Tables) (commits : ℕ) → in_scope (Above commits) (with_rows t (filter (is_above commits) t.log) [] [] []) ≡ in_scope (Above commits) t
+above_scope t commits = ap (λ logs. with_rows t logs [] [] []) (twice (is_above commits) t.log)

@@ -4,10 +4,14 @@ ghost use Rattle.std.specs.Option.{option_copied, option_to_list};
 ghost use Rattle.mr_model.specs.Writes.{same_id};
 ghost use Rattle.mr_tables.specs.Change.{id_before, put, put_all, rows_without};
 ghost use Rattle.mr_tables.proofs.Putting.{InOrder};
+ghost use Rattle.mr_part.specs.ScopeOf.{scope_of};
+ghost use Rattle.mr_store.specs.Needed.{is_log_needed};
 ghost use Rattle.mr_store.specs.Keyed.{cells_of_id, if_passes};
 
 use mr_base::{RoomName, ServerId, WriteId};
-use mr_lists::rows::IdRow;
+use mr_lists::rows::{IdRow, TableRow};
+use mr_part::Scope;
+use mr_tables::LogRow;
 use std::alloc::{AllocError, Global};
 use std::collections::BTreeMap;
 use std::marker::Model;
@@ -160,6 +164,36 @@ impl<R: IdRow> RowMap<R> {
         ensures { IfOk result (λ rows. rows.items ≡ filter (λ r. same_id (R.id r) id) self.now) }
     {
         as_list(alloc, self.get(id))
+    }
+}
+
+impl RowMap<LogRow> {
+    /// Copies of the rows of the log that a command of this scope may need. All rows are looked at.
+    pub(crate) fn needed(&self, alloc: Global, scope: &Scope<'_>) -> Result<Vec<LogRow>, AllocError>
+        ensures { IfOk result (λ rows. rows.items ≡ filter (is_log_needed (scope_of scope.now)) self.now) }
+    {
+        let mut rows = Vec::new(alloc);
+        for row in self.rows.values() {
+            if is_needed(scope, row) {
+                rows.push(row.copied(alloc)?)?;
+            }
+        }
+        Ok(rows)
+    }
+}
+
+/// Whether a command of this scope may need the row.
+fn is_needed(scope: &Scope<'_>, row: &LogRow) -> bool
+    ensures { result ≡ is_log_needed (scope_of scope.now) row.now }
+{
+    match *scope {
+        Scope::NextCommits(_) => row.seq == 0,
+        Scope::UpTo(number) => row.seq >= 1 && row.seq <= number,
+        Scope::Above(commits) => row.seq == 0 || row.seq > commits,
+        Scope::Items(_) => true,
+        Scope::Nothing => false,
+        Scope::InRoom(_) => false,
+        Scope::OfTarget(_) => false,
     }
 }
 
