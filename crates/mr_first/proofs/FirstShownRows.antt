@@ -2,14 +2,13 @@
 use Rattle.std.proofs.Common.{◌≡◌, ℕ, zero, suc, ◌≤◌, pos, negsuc, [], ◌∷◌, false, true, leb, leb-true, IsTrue, Result, Ok, Err, refl, sym, ap, ◌∙◌, arith}
 use Rattle.std.specs.Prelude.{IfErr}
 use Rattle.std.proofs.lemmas.Bool.{and_parts, and_from, false_from_ne_true, le-leb, true≢false}
-use Rattle.std.specs.Str.{is_utf8}
 use Rattle.sqlite_value.specs.declared.value.Value.{Value}
 use Rattle.sqlite_value.specs.declared.value.Value.TheVariants.{Null, Int, Real, Text, Blob}
 use Rattle.sqlite_value.specs.Order.{Row, column, bytes}
 use Rattle.mr_model.specs.Writes.{is_server, is_count, is_time, is_room_name, is_title, is_length, greatest_count, greatest_time}
 use Rattle.mr_model.specs.Replay.{Place, Taken, Logged, Done, Void}
 use Rattle.mr_rows.specs.RowCells.{nat_of, whole_of, place_number, place_in}
-use Rattle.mr_rows.specs.RowLimits.{is_commit}
+use Rattle.mr_rows.specs.RowLimits.{is_choices, is_commit}
 use Rattle.mr_rows.specs.CellLimits.{is_number, is_text, is_server_cell, is_count_cell, is_time_cell, is_commit_cell, is_id_cells, is_place_cell}
 use Rattle.mr_rows.specs.Shown.{IsShownAs}
 use Rattle.mr_rows.proofs.ShownRows.{number_is, number_told, text_is, text_told}
@@ -58,13 +57,13 @@ write_shown r = (
       let d = and_parts (is_id_cells (column r 0) (column r 1)) (is_time_cell (column r 2)) c.0 in
       let e = and_parts (is_server_cell (column r 0)) (is_count_cell (column r 1)) d.0 in
       let f = and_parts _ (is_text is_title (column r 6)) b.1 in
-      let g = and_parts (is_number 1 1440 (column r 4)) (is_text is_utf8 (column r 5)) f.0 in
+      let g = and_parts (is_number 1 1440 (column r 4)) (is_text (is_choices (nat_of (column r 4))) (column r 5)) f.0 in
       let server = number_is 1 99 (column r 0) e.0 in
       let n = number_is 1 greatest_count (column r 1) e.1 in
       let time = number_is 1 greatest_time (column r 2) d.1 in
       let room = text_is is_room_name (column r 3) c.1 in
       let long = number_is 1 1440 (column r 4) g.0 in
-      let choices = text_is is_utf8 (column r 5) g.1 in
+      let choices = text_is (is_choices (nat_of (column r 4))) (column r 5) g.1 in
       let title = text_is is_title (column r 6) f.1 in
       let seq = number_is 0 999_999_999_999 (column r 7) a.1 in (
         λ i. server.0 i ∷ n.0 i ∷ time.0 i ∷ room.0 i ∷ long.0 i ∷ choices.0 i ∷ title.0 i ∷ seq.0 i ∷ [],
@@ -72,14 +71,14 @@ write_shown r = (
       ),
   λ s. let a = and_parts _ (is_commit (nat_of (column r 7))) s.1 in
       let b = and_parts _ (is_title (bytes (column r 6))) a.0 in
-      let c = and_parts _ (is_utf8 (bytes (column r 5))) b.0 in
+      let c = and_parts _ (is_choices (nat_of (column r 4)) (bytes (column r 5))) b.0 in
       let d = and_parts _ (is_length (nat_of (column r 4))) c.0 in
       let e = and_parts _ (is_room_name (bytes (column r 3))) d.0 in
       let f = and_parts _ (is_time (nat_of (column r 2))) e.0 in
       let g = and_parts (is_server (nat_of (column r 0))) (is_count (nat_of (column r 1))) f.0 in
       let at = λ (k : ℕ). ap (λ x. column x k) s.0 in
       let id = and_from _ _ (number_told 1 99 _ _ (at 0) g.0) (number_told 1 greatest_count _ _ (at 1) g.1) in
-      let meeting = and_from _ _ (and_from _ _ (number_told 1 1440 _ _ (at 4) d.1) (text_told is_utf8 _ _ (at 5) c.1)) (text_told is_title _ _ (at 6) b.1) in
+      let meeting = and_from _ _ (and_from _ _ (number_told 1 1440 _ _ (at 4) d.1) (text_told (is_choices (nat_of (column r 4))) _ _ (at 5) c.1)) (text_told is_title _ _ (at 6) b.1) in
       and_from _ _ (and_from _ _ (and_from _ _ (and_from _ _ id (number_told 1 greatest_time _ _ (at 2) f.1)) (text_told is_room_name _ _ (at 3) e.1)) meeting) (number_told 0 999_999_999_999 _ _ (at 7) a.1),
 )
 

@@ -1,6 +1,5 @@
 -- Rows of the first schema as the cells of their tables, and back, where the second schema has other ones; and their limits.
 use Rattle.std.specs.Prelude.{pos, negsuc, zero, suc, Bool, true, false, ◌&&◌, nat_le, [], ◌∷◌}
-use Rattle.std.specs.Str.{is_utf8}
 use Rattle.sqlite_value.specs.declared.value.Value.{Value}
 use Rattle.sqlite_value.specs.declared.value.Value.TheVariants.{Null, Int, Real, Text, Blob}
 use Rattle.sqlite_value.specs.Order.{Row, column, bytes}
@@ -9,7 +8,7 @@ use Rattle.mr_model.specs.Replay.{Place, Taken, Logged, Done, Void}
 use Rattle.mr_model.specs.Tables.{MetaRow}
 use Rattle.mr_model.specs.First.{WriteRow, FirstUndoRow}
 use Rattle.mr_rows.specs.RowCells.{meta_cells_of, nat_of, whole_of, place_number, place_in}
-use Rattle.mr_rows.specs.RowLimits.{is_commit}
+use Rattle.mr_rows.specs.RowLimits.{is_choices, is_commit}
 use Rattle.mr_rows.specs.CellLimits.{is_number, is_text, is_time_cell, is_commit_cell, is_id_cells}
 
 -- the second cell is the number of the schema
@@ -41,7 +40,7 @@ undo_in r = record { server = nat_of (column r 1); n = nat_of (column r 2); plac
 
 abbrev pub is_write_row : WriteRow → Bool
 is_write_row w =
-    is_server w.server && is_count w.n && is_time w.time && is_room_name w.room && is_length w.length && is_utf8 w.choices && is_title w.title
+    is_server w.server && is_count w.n && is_time w.time && is_room_name w.room && is_length w.length && is_choices w.length w.choices && is_title w.title
     && is_commit w.seq
 
 -- of a booking with at most eight alternatives
@@ -66,7 +65,7 @@ is_first_place_cell (Text t) = false
 is_first_place_cell (Blob b) = false
 
 abbrev pub are_first_meeting_cells : Row → Bool
-are_first_meeting_cells r = is_number 1 1440 (column r 4) && is_text is_utf8 (column r 5) && is_text is_title (column r 6)
+are_first_meeting_cells r = is_number 1 1440 (column r 4) && is_text (is_choices (nat_of (column r 4))) (column r 5) && is_text is_title (column r 6)
 
 -- (columns are counted from 0, as queries show them)
 abbrev pub are_write_cells : Row → Bool

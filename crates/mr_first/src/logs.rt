@@ -13,9 +13,8 @@ use crate::first_rows::{FirstRow, is_id_before};
 use crate::queries::ask_first;
 use crate::rows::{FirstUndoRow, WriteRow};
 use mr_base::MINUTES_OF_A_DAY;
-use mr_rows::cells::{
-    read_commit, read_id, read_name, read_number, read_text, read_time, read_title,
-};
+use mr_rows::cells::{read_commit, read_id, read_name, read_number, read_time, read_title};
+use mr_rows::choices::read_choices;
 use mr_rows::compare_ids;
 use mr_rows::numbers::{Number, PlaceNumber};
 use mr_tables::MeetingCells;
@@ -111,7 +110,7 @@ fn read_meeting(alloc: Global, row: &Row) -> Result<MeetingCells, Error>
     ensures refused { IfErr result (λ e. e ≢ Error.SqliteFailure ErrorCode.OutOfMemory → are_first_meeting_cells row.now ≡ false) }
 {
     let length = read_number(row, 4, 1, u64::from(MINUTES_OF_A_DAY))?;
-    let choices = read_text(row, 5)?;
+    let choices = read_choices(row, 5, length as u32)?;
     let title = read_title(alloc, row, 6)?;
     Ok(MeetingCells {
         length: length as u32,
