@@ -1,5 +1,5 @@
 -- Rows that were found in the tables of a sound database, and read, are held.
-use Rattle.std.proofs.Common.{◌≡◌, inl, inr, ℕ, pos, ◌+◌, zero, suc, List, [], ◌∷◌, map, length, drop, true, not, ◌&&◌, ◌||◌, IsTrue, None, Some, Option, Ok, Err, Result, IfOk, OnOk, refl, sym, ap, subst, ◌∙◌, Less, arith, add-one, eq-eqb}
+use Rattle.std.proofs.Common.{◌≡◌, inl, inr, ℕ, pos, Bool, ◌+◌, zero, suc, List, [], ◌∷◌, map, length, drop, true, not, ◌&&◌, ◌||◌, IsTrue, None, Some, Option, Ok, Err, Result, IfOk, OnOk, refl, sym, ap, subst, ◌∙◌, Less, arith, add-one, eq-eqb}
 use Rattle.std.specs.List.{All, AllByRecursion, list_all}
 use Rattle.std.proofs.lemmas.List.Elements.{recursion_from_All}
 use Rattle.std.specs.List.Sorted.{IsPermutation}
@@ -33,16 +33,17 @@ use Rattle.sqlite_catalog.specs.Listing.{IsSound}
 use Rattle.sqlite.specs.Collation.TheVariants.{Binary}
 use Rattle.mr_model.specs.Texts as texts
 use Rattle.mr_model.specs.Writes.{Id}
-use Rattle.mr_model.specs.Tables.{MetaRow}
+use Rattle.mr_model.specs.Tables.{MetaRow, Tables}
 use Rattle.mr_tables.specs.Change.{put, put_all}
 use Rattle.mr_rows.specs.RowCells.{meta_in}
 use Rattle.mr_rows.specs.Schema.{our_schema}
 use Rattle.mr_rows.specs.Shelf.{IsShelf}
 use Rattle.mr_rows.specs.Form.{Form, meta_form, room_form, vector_form, log_form, booking_form, error_form, cancelled_form, cancel_form}
-use Rattle.mr_rows.specs.Database.{IsRowOf, IsHeld, AreHeld, first_meta, tables_in}
+use Rattle.mr_rows.specs.Database.{IsRowOf, IsHeld, AreHeld, IsOurs, first_meta, tables_in}
 use Rattle.mr_rows.specs.Reads.{Looks}
 use Rattle.mr_rows.proofs.QueryLemmas.{looks_so}
-use Rattle.mr_rows.specs.Shown.{AreShownAs, columns_from, IsShownAs, IsStoredAs, AreStoredAs, AreOurRows, IsMeta, listed}
+use Rattle.mr_rows.specs.Kept.{AreTaken}
+use Rattle.mr_rows.specs.Shown.{IsShownSo, columns_from, IsShownAs, IsStoredAs, AreStoredAs, AreOurRows, IsMeta, listed}
 use Rattle.mr_rows.specs.Shelf.{HasShelves}
 use Rattle.mr_rows.proofs.FormLemmas.{has_map, has_moved}
 use Rattle.mr_rows.proofs.ValueLemmas.{equal_nat, equal_text}
@@ -58,14 +59,20 @@ pub found_so : {X : Type 0} {R K : Type 0} (f : Form R K) (show : Row → Row) (
 found_so f show stored shown (Ok x) way same all = stored_so (IsShownAs f) (IsStoredAs f) show stored shown way same (recursion_from_All _ shown all)
 found_so f show stored shown (Err e) way same all = tt
 
--- a table of which each row that a text shows passed
-pub found_by : {X : Type 0} {R K : Type 0} (f : Form R K) (text : List ℕ) (old new : State) (r : Result X Error)
+-- a table of which each row that a text shows was taken
+pub taken_by : {X R K : Type 0} (f : Form R K) (rows_of : Tables → List R) (keep : Bool) (text : List ℕ) (old new : State) (r : Result X Error) (items : X → List R)
     → ((row : Row) → IsShownAs f (columns_from 1 (length f.table.columns) row) → IsStoredAs f row)
     → ((rows : List Row) → old.now.schema ≡ our_schema → Shown text [] old new rows → IsPermutation (map (columns_from 1 (length f.table.columns)) (old.now.trees f.table.tree)) rows)
-    → Looks old new r (λ _. AreShownAs (IsShownAs f) text old new) → Looks old new r (λ _. AreStoredAs f old.now.trees)
-found_by f text old new r way sees =
-    looks_so old new r (λ _. AreShownAs (IsShownAs f) text old new) (λ _. AreStoredAs f old.now.trees)
-    (λ here x all. stored_so (IsShownAs f) (IsStoredAs f) (columns_from 1 (length f.table.columns)) (old.now.trees f.table.tree) all.0 way (sees all.0 here.schema all.1) all.2)
+    → ((rows : List Row) → IsOurs old.now → Shown text [] old new rows → IsPermutation (rows_of (tables_in old.now.trees)) (map (λ row. f.row_in (Null ∷ row)) rows))
+    → Looks old new r (λ out. IsShownSo (AreTaken f keep (items out)) text [] old new)
+    → Looks old new r (λ out. AreStoredAs f old.now.trees × (IsTrue keep → AreHeld old.now.trees → IsPermutation (rows_of (tables_in old.now.trees)) (items out)))
+taken_by f rows_of keep text old new r items way sees shows =
+    looks_so old new r (λ out. IsShownSo (AreTaken f keep (items out)) text [] old new) _
+    (λ here out all. (
+      stored_so (IsShownAs f) (IsStoredAs f) (columns_from 1 (length f.table.columns)) (old.now.trees f.table.tree) all.0 way (sees all.0 here.schema all.1) all.2.0,
+      λ kept held.
+          subst (IsPermutation (rows_of (tables_in old.now.trees))) (sym (all.2.1 kept)) (shows all.0 (record { schema = here.schema; held = held }) all.1),
+    ))
 
 pub meta_found : (trees : Trees) (shown : List Row) (r : Result (Option MetaRow) Error) → IsPermutation (map (columns_from 1 7) (trees 0)) shown → OnOk r (All (IsShownAs meta_form) shown)
     → IfOk r (λ m. map (λ row. meta_in (Null ∷ row)) shown ≡ listed m) → IfOk r (λ m. AreStoredAs meta_form trees × IsMeta trees m)

@@ -1,5 +1,5 @@
 -- The orders of rows, and that the rows of a table, sorted, are the table.
-use Rattle.std.proofs.Common.{◌≡◌, ℕ, eqb, Bool, true, ◌&&◌, ◌⊎◌, inl, inr, List, [], ◌∷◌, map, refl, ap, subst, ◌∙◌, arith, lt-ltb, eqb-true, Ordering, Less, Equal}
+use Rattle.std.proofs.Common.{◌≡◌, ℕ, eqb, Bool, true, ◌&&◌, ◌⊎◌, inl, inr, IsTrue, List, [], ◌∷◌, map, refl, ap, subst, ◌∙◌, arith, lt-ltb, eqb-true, Ordering, Less, Equal}
 use Rattle.std.specs.Prelude.{nat_lt}
 use Rattle.std.specs.List.{AllByRecursion}
 use Rattle.std.specs.List.Sorted.{IsPermutation, IsSorted}
@@ -14,7 +14,7 @@ use Rattle.sqlite_keyed.proofs.SortLemmas.{sorted_unique}
 use Rattle.mr_model.specs.Texts.{Text}
 use Rattle.mr_model.specs.Writes.{Id}
 use Rattle.mr_model.specs.Replica.{text_before}
-use Rattle.mr_model.specs.Tables.{VectorRow, LogRow, BookingRow, ErrorRow, CancelledRow, CancelRow}
+use Rattle.mr_model.specs.Tables.{Tables, VectorRow, LogRow, BookingRow, ErrorRow, CancelledRow, CancelRow}
 use Rattle.mr_model.specs.Queries.{booking_id, error_id, cancelled_id, cancel_id, log_id}
 use Rattle.mr_model.specs.Changes.{IdBefore}
 use Rattle.mr_tables.specs.Change.{id_before}
@@ -23,7 +23,10 @@ use Rattle.mr_base.specs.Ids.{id_cmp}
 use Rattle.mr_replay.proofs.IdKeys.{ids_total}
 use Rattle.sqlite_trees.specs.Tree.{Trees}
 use Rattle.mr_rows.specs.RowCells.{room_in, vector_in, log_in, booking_row_from, error_in, cancelled_in, cancel_row_from}
-use Rattle.mr_rows.specs.Database.{tables_in}
+use Rattle.mr_rows.specs.Database.{AreHeld, tables_in}
+use Rattle.mr_rows.specs.Form.{Form}
+use Rattle.mr_rows.specs.Shown.{AreStoredAs}
+use Rattle.mr_rows.specs.Kept.{AreFound}
 use Rattle.mr_rows.proofs.SortedByKey.{ordered_in_order}
 
 -- ---- the orders are total
@@ -117,3 +120,8 @@ cancelled_rise trees = rising id_before cancelled_id _ (λ a b. id_less (cancell
 pub cancels_rise : (trees : Trees) → IsAscending (λ a b. id_cmp (cancel_id a) (cancel_id b) ≡ Less) (tables_in trees).cancels
 unfolding tables_in
 cancels_rise trees = rising id_before cancel_id _ (λ a b. id_less (cancel_id a) (cancel_id b)) _ (ordered_in_order id_before cancel_id id_order (map cancel_row_from (trees 18)))
+
+-- rows that were found, once they are sorted, are the table
+pub found_rise : {R K : Type 0} (f : Form R K) (rows_of : Tables → List R) (keep : Bool) (cmp : R → R → Ordering) (trees : Trees) (found out : List R) → IsTotalOrder cmp → IsAscending (λ a b. cmp a b ≡ Less) (rows_of (tables_in trees))
+    → AreStoredAs f trees × (IsTrue keep → AreHeld trees → IsPermutation (rows_of (tables_in trees)) found) → IsPermutation found out → IsSorted cmp out → AreFound f rows_of keep trees out
+found_rise f rows_of keep cmp trees found out total rises here same sorted = (here.0, λ kept held. table_is cmp total (rows_of (tables_in trees)) found out rises (here.1 kept held) same sorted)

@@ -3,6 +3,7 @@ use Rattle.std.proofs.Common.{◌≡◌, ◌⊎◌, inl, inr, ℕ, List, [], ◌
 use Rattle.std.proofs.lemmas.List.{append_assoc, map-append}
 use Rattle.std.proofs.lemmas.List.Elements.{filter-append}
 use Rattle.std.specs.List.{AllByRecursion}
+use Rattle.sqlite_value.specs.declared.value.Value.TheVariants.{Null}
 use Rattle.sqlite_value.specs.Order.{Row}
 use Rattle.sqlite_trees.specs.declared.store.Store as store
 use Rattle.sqlite.specs.declared.error.Error.{Error}
@@ -16,7 +17,9 @@ use Rattle.sqlite.proofs.StateLemmas.{survives_weaker}
 use Rattle.sqlite.proofs.Callers.{IsPlain, begun_plain, unchanged_then}
 use Rattle.mr_rows.specs.Schema.{our_schema}
 use Rattle.mr_rows.specs.Reads.{IsPlaced, Looks, ReadsKept}
-use Rattle.mr_rows.specs.Shown.{IsShownSo}
+use Rattle.mr_rows.specs.Form.{Form}
+use Rattle.mr_rows.specs.Shown.{IsShownAs, IsShownSo}
+use Rattle.mr_rows.specs.Kept.{AreTaken}
 use Rattle.mr_rows.proofs.QueryLemmas.{placed, plain_here, shown_open, left_same, commits_none, looked, looks_so, looks_then}
 
 -- what is shown of an unchanged database is shown of it as it was
@@ -54,6 +57,14 @@ AreMade f first now rows = now ≡ first ++ map f rows
 pub made_more : {X : Type 0} (f : Row → X) (first old new : List X) (rows : List Row) (row : Row) → new ≡ old ++ f row ∷ [] → AreMade f first old rows → AreMade f first new (rows ++ row ∷ [])
 made_more f first old new rows row more far =
     more ∙ (λ i. far i ++ f row ∷ []) ∙ append_assoc first (map f rows) (f row ∷ []) ∙ ap (λ xs. first ++ xs) (sym (map-append f rows (row ∷ [])))
+
+-- one row more is taken, and put behind the others if it is kept
+pub taken_more : {R K : Type 0} (f : Form R K) (keep : Bool) (old new : List R) (rows : List Row) (row : Row) → IsShownAs f row → (IsTrue keep → new ≡ old ++ f.row_in (Null ∷ row) ∷ [])
+    → AreTaken f keep old rows → AreTaken f keep new (rows ++ row ∷ [])
+taken_more f keep old new rows row shown more far = (
+  all_more (IsShownAs f) rows row shown far.0,
+  λ kept. made_more (λ r. f.row_in (Null ∷ r)) [] old new rows row (more kept) (far.1 kept),
+)
 
 module _ {S : Type 0} (g : store.Ghosts S) (sql : List ℕ) (params : Row) (Q : List Row → Type 0) (first : State) where
   -- this is so of the rows that the query has given

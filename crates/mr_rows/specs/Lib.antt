@@ -1,4 +1,4 @@
--- A reader of the contracts trusts Schema, Shelf, RowCells, RowLimits, CellLimits, TableLimits, Form, Database, Reads, RowQuestions, Shown, ChangeParts and TakeLaws. Meaning serves proofs alone.
+-- A reader of the contracts trusts Schema, Shelf, RowCells, RowLimits, CellLimits, TableLimits, Form, Database, Reads, RowQuestions, Shown, Kept, ChangeParts and TakeLaws. Meaning serves proofs alone.
 pub mod Schema
 pub mod Meaning
 pub mod Shelf
@@ -9,6 +9,7 @@ pub mod TableLimits
 pub mod Form
 pub mod Database
 pub mod Shown
+pub mod Kept
 pub mod ChangeParts
 pub mod Reads
 pub mod RowQuestions

@@ -27,10 +27,6 @@ IsStoredAs f r = (f.cells (f.row_in r) ≡ columns_from 1 (length f.table.column
 abbrev pub IsShownSo : (List Row → Type 0) → List ℕ → Row → State → State → Type 0
 IsShownSo Q sql params old new = (rows : List Row) × Shown sql params old new rows × Q rows
 
--- each of them is such a row
-abbrev pub AreShownAs : (Row → Type 0) → List ℕ → State → State → Type 0
-AreShownAs P sql old new = IsShownSo (AllByRecursion P) sql [] old new
-
 abbrev pub AreStoredAs : {R K : Type 0} → Form R K → Trees → Type 0
 AreStoredAs f trees = AllByRecursion (IsStoredAs f) (trees f.table.tree)
 

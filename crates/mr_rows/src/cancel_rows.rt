@@ -14,7 +14,7 @@ use crate::cells::{
     has_commit, has_id, has_mark, has_name, has_time, passes, read_commit, read_id, read_mark,
     read_name, read_time,
 };
-use crate::found::test_rows;
+use crate::found::take_rows;
 use crate::numbers::Number;
 use crate::passing::PassingRow;
 use crate::puts::{day_text, parts_of, put_cancel_cells, put_cancelled_cells};
@@ -80,8 +80,12 @@ impl StoredRow for CancelledRow {
 }
 
 impl FoundRow for CancelledRow {
-    fn find<S: Alter>(conn: &mut Connection<S>) -> Result<(), Error> {
-        test_rows::<CancelledRow, S>(conn, ALL_CANCELLED)
+    fn find<S: Alter>(
+        conn: &mut Connection<S>,
+        alloc: Global,
+        keep: bool,
+    ) -> Result<Vec<CancelledRow>, Error> {
+        take_rows(conn, alloc, ALL_CANCELLED, keep)
     }
 }
 
@@ -154,8 +158,12 @@ impl StoredRow for CancelRow {
 }
 
 impl FoundRow for CancelRow {
-    fn find<S: Alter>(conn: &mut Connection<S>) -> Result<(), Error> {
-        test_rows::<CancelRow, S>(conn, ALL_CANCELS)
+    fn find<S: Alter>(
+        conn: &mut Connection<S>,
+        alloc: Global,
+        keep: bool,
+    ) -> Result<Vec<CancelRow>, Error> {
+        take_rows(conn, alloc, ALL_CANCELS, keep)
     }
 }
 

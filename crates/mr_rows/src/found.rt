@@ -1,4 +1,4 @@
-ghost use Rattle.std.specs.Prelude.{◌≡◌, [], ◌∷◌, false, map, IfOk, OnOk};
+ghost use Rattle.std.specs.Prelude.{◌≡◌, [], ◌∷◌, ◌++◌, false, map, IfOk, OnOk, IsTrue};
 ghost use Rattle.std.specs.List.{All};
 ghost use Rattle.sqlite_value.specs.declared.value.Value.TheVariants.{Null};
 ghost use Rattle.sqlite.specs.Given.{IsPlain};
@@ -6,20 +6,24 @@ ghost use Rattle.sqlite.specs.Listing.{understood};
 ghost use Rattle.sqlite.specs.Held.{state};
 ghost use Rattle.mr_rows.specs.Schema.{our_schema};
 ghost use Rattle.mr_rows.specs.RowCells.{meta_in};
-ghost use Rattle.mr_rows.specs.Form.{meta_form, room_form, vector_form, log_form, booking_form, error_form, cancelled_form, cancel_form};
-ghost use Rattle.mr_rows.specs.Shown.{AreShownAs, IsShownAs, AreStoredAs, AreOurRows, IsMeta, listed};
+ghost use Rattle.mr_rows.specs.Form.{meta_form};
+ghost use Rattle.mr_rows.specs.Shown.{IsShownSo, IsShownAs, AreStoredAs, IsMeta, listed};
+ghost use Rattle.mr_rows.specs.Kept.{AreTaken, AreFound, AreAllFound};
 ghost use Rattle.mr_rows.specs.Reads.{Looks};
 
 use crate::meta_row::read_meta;
+use crate::order::sort_rows;
 use crate::queries::{select_all_meta, select_all_undo, select_all_write_log};
 use crate::stored_rows::{FoundRow, StoredRow};
 use mr_base::RoomName;
-use mr_tables::{BookingRow, CancelRow, CancelledRow, ErrorRow, LogRow, MetaRow, VectorRow};
+use mr_tables::{
+    BookingRow, CancelRow, CancelledRow, ErrorRow, LogRow, MetaRow, Tables, VectorRow,
+};
 use sqlite::{Alter, Connection, Error, Row};
 use std::alloc::Global;
 
-// Of each table all rows are tested, so that a row that breaks the table's rules or the limits is found. They come one at a time, and nothing is
-// made of them.
+// One pass over all rows of all tables tests each, so that a row that breaks the table's rules or the limits is found. They come one at a time, and
+// are read if they are to be kept; else nothing is made of them.
 
 fn only_meta(rows: &[Row]) -> Result<Option<MetaRow>, Error>
     ensures whole { OnOk result (All (IsShownAs meta_form) rows.now) }
@@ -42,59 +46,80 @@ fn find_meta<S: Alter>(conn: &mut Connection<S>) -> Result<Option<MetaRow>, Erro
     only_meta(&rows)
 }
 
-/// Tests the rows, one after the other, that a text shows which means a query under our schema.
-pub(crate) fn test_rows<R: StoredRow, S: Alter>(
-    conn: &mut Connection<S>,
-    sql: &str,
+/// Takes a row that a query shows: it is tested, and if it is to be kept it is read and put behind those that are there.
+fn take_row<R: StoredRow>(
+    alloc: Global,
+    row: &Row,
+    keep: bool,
+    out: &mut Vec<R>,
 ) -> Result<(), Error>
+    ensures shown { OnOk result (IsShownAs R.form row.now) }
+    ensures kept { OnOk result (IsTrue keep → out.new.items ≡ out.old.items ++ R.form.row_in (Null ∷ row.now) ∷ []) }
+{
+    if !keep {
+        return R::test(row);
+    }
+    out.push(R::read(alloc, row)?)?;
+    Ok(())
+}
+
+/// Takes the rows, one after the other, that a text shows which means a query under our schema.
+pub(crate) fn take_rows<R: StoredRow, S: Alter>(
+    conn: &mut Connection<S>,
+    alloc: Global,
+    sql: &str,
+    keep: bool,
+) -> Result<Vec<R>, Error>
     requires autocommit { conn.old.in_transaction ≡ false }
     requires plain { IsPlain (understood our_schema sql.now) }
     ensures autocommit { conn.new.in_transaction ≡ false }
     ensures looks { Looks (state S.Store conn.old) (state S.Store conn.new) result
-        (λ _. AreShownAs (IsShownAs R.form) sql.now (state S.Store conn.old) (state S.Store conn.new)) }
+        (λ out. IsShownSo (AreTaken R.form keep out.items) sql.now [] (state S.Store conn.old) (state S.Store conn.new)) }
 {
+    let mut out = Vec::new(alloc);
     let mut rows = conn.query(sql, &[])?;
     'rows: for _ in 0..u64::MAX {
         rows.advance()?;
         match rows.get() {
-            Some(row) => R::test(row)?,
-            None => return Ok(()),
+            Some(row) => take_row(alloc, row, keep, &mut out)?,
+            None => return Ok(out),
         }
     }
     Err(Error::InvalidQuery)
 }
 
-// The rooms and the vector.
-fn find_heads<S: Alter>(conn: &mut Connection<S>) -> Result<(), Error>
+/// Tests all rows of a table. Those that are kept stand in the order of their keys.
+fn find_rows<R: FoundRow, S: Alter>(
+    conn: &mut Connection<S>,
+    alloc: Global,
+    keep: bool,
+) -> Result<Vec<R>, Error>
     requires autocommit { conn.old.in_transaction ≡ false }
     ensures autocommit { conn.new.in_transaction ≡ false }
     ensures looks { Looks (state S.Store conn.old) (state S.Store conn.new) result
-        (λ _. AreStoredAs room_form (state S.Store conn.old).now.trees × AreStoredAs vector_form (state S.Store conn.old).now.trees) }
+        (λ rows. AreFound R.form R.rows_of keep (state S.Store conn.old).now.trees rows.items) }
 {
-    RoomName::find(conn)?;
-    VectorRow::find(conn)
+    R::keeps_order();
+    let mut rows = R::find(conn, alloc, keep)?;
+    sort_rows(&mut rows)?;
+    Ok(rows)
 }
 
-// Both tables of the board.
-fn find_board<S: Alter>(conn: &mut Connection<S>) -> Result<(), Error>
+// The same of two tables.
+fn find_two<A: FoundRow, B: FoundRow, S: Alter>(
+    conn: &mut Connection<S>,
+    alloc: Global,
+    keep: bool,
+) -> Result<(Vec<A>, Vec<B>), Error>
     requires autocommit { conn.old.in_transaction ≡ false }
     ensures autocommit { conn.new.in_transaction ≡ false }
     ensures looks { Looks (state S.Store conn.old) (state S.Store conn.new) result
-        (λ _. AreStoredAs booking_form (state S.Store conn.old).now.trees × AreStoredAs error_form (state S.Store conn.old).now.trees) }
+        (λ rows. AreFound A.form A.rows_of keep (state S.Store conn.old).now.trees rows.0.items
+        × AreFound B.form B.rows_of keep (state S.Store conn.old).now.trees rows.1.items) }
 {
-    BookingRow::find(conn)?;
-    ErrorRow::find(conn)
-}
-
-// Both tables that cancels fill.
-fn find_cancels<S: Alter>(conn: &mut Connection<S>) -> Result<(), Error>
-    requires autocommit { conn.old.in_transaction ≡ false }
-    ensures autocommit { conn.new.in_transaction ≡ false }
-    ensures looks { Looks (state S.Store conn.old) (state S.Store conn.new) result
-        (λ _. AreStoredAs cancelled_form (state S.Store conn.old).now.trees × AreStoredAs cancel_form (state S.Store conn.old).now.trees) }
-{
-    CancelledRow::find(conn)?;
-    CancelRow::find(conn)
+    let first = find_rows::<A, S>(conn, alloc, keep)?;
+    let second = find_rows::<B, S>(conn, alloc, keep)?;
+    Ok((first, second))
 }
 
 fn are_none(rows: &[Row]) -> Result<(), Error>
@@ -137,20 +162,33 @@ fn find_no_old_logs<S: Alter>(conn: &mut Connection<S>) -> Result<(), Error>
     find_no_undo(conn)
 }
 
-/// Finds the row of `meta`, if there is one, and that all rows of all tables keep the tables' rules and the limits.
+/// Finds the row of `meta`, if there is one, and that all rows of all tables keep the tables' rules and the limits. It answers the tables
+/// that `meta` is of, with all their rows if these are to be kept, and with no others if not.
 pub fn find_all<S: Alter>(
     conn: &mut Connection<S>,
-    _alloc: Global,
-) -> Result<Option<MetaRow>, Error>
+    alloc: Global,
+    keep: bool,
+) -> Result<Option<Tables>, Error>
     requires autocommit { conn.old.in_transaction ≡ false }
     ensures autocommit { conn.new.in_transaction ≡ false }
-    ensures looks { Looks (state S.Store conn.old) (state S.Store conn.new) result
-        (λ m. AreOurRows (state S.Store conn.old).now.trees × IsMeta (state S.Store conn.old).now.trees m) }
+    ensures looks { Looks (state S.Store conn.old) (state S.Store conn.new) result (AreAllFound keep (state S.Store conn.old).now.trees) }
 {
-    find_heads(conn)?;
-    LogRow::find(conn)?;
-    find_board(conn)?;
-    find_cancels(conn)?;
+    let heads = find_two::<RoomName, VectorRow, S>(conn, alloc, keep)?;
+    let log = find_rows::<LogRow, S>(conn, alloc, keep)?;
+    let board = find_two::<BookingRow, ErrorRow, S>(conn, alloc, keep)?;
+    let cancels = find_two::<CancelledRow, CancelRow, S>(conn, alloc, keep)?;
     find_no_old_logs(conn)?;
-    find_meta(conn)
+    match find_meta(conn)? {
+        None => Ok(None),
+        Some(meta) => Ok(Some(Tables {
+            meta,
+            room: heads.0,
+            vector: heads.1,
+            log,
+            booking: board.0,
+            errorlog: board.1,
+            cancelled: cancels.0,
+            cancels: cancels.1,
+        })),
+    }
 }

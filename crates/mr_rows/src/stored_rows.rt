@@ -10,7 +10,7 @@ ghost use Rattle.mr_model.specs.Writes.{Id};
 ghost use Rattle.mr_model.specs.Tables.{Tables};
 ghost use Rattle.mr_rows.specs.Form.{Form};
 ghost use Rattle.mr_rows.specs.Shown.{columns_from, IsShownAs, IsStoredAs, AreStoredAs};
-ghost use Rattle.mr_rows.specs.Database.{MakesTables, tables_in};
+ghost use Rattle.mr_rows.specs.Database.{AreHeld, MakesTables, tables_in};
 ghost use Rattle.mr_rows.specs.Reads.{ReadsKept, Looks};
 
 use mr_base::WriteId;
@@ -82,11 +82,17 @@ pub trait StoredRow: Drop {
 
 /// A row of a table whose rows are all tested.
 pub(crate) trait FoundRow: StoredRow {
-    /// Finds that each row of the table keeps its rules and the limits.
-    fn find<S: Alter>(conn: &mut Connection<S>) -> Result<(), Error>
+    /// Finds that each row of the table keeps its rules and the limits. If they are to be kept it answers them, in any order.
+    fn find<S: Alter>(
+        conn: &mut Connection<S>,
+        alloc: Global,
+        keep: bool,
+    ) -> Result<Vec<Self>, Error>
         requires autocommit { conn.old.in_transaction ≡ false }
         ensures autocommit { conn.new.in_transaction ≡ false }
-        ensures looks { Looks (state S.Store conn.old) (state S.Store conn.new) result (λ _. AreStoredAs Self.form (state S.Store conn.old).now.trees) };
+        ensures looks { Looks (state S.Store conn.old) (state S.Store conn.new) result
+            (λ rows. AreStoredAs Self.form (state S.Store conn.old).now.trees
+            × (IsTrue keep → AreHeld (state S.Store conn.old).now.trees → IsPermutation (Self.rows_of (tables_in (state S.Store conn.old).now.trees)) rows.items)) };
 }
 
 /// A row of a table that has one row for each request.

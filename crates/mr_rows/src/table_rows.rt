@@ -18,7 +18,7 @@ use crate::cells::{
     has_commit, has_id, has_name, has_number, has_time, passes, read_commit, read_id, read_name,
     read_number, read_time,
 };
-use crate::found::test_rows;
+use crate::found::take_rows;
 use crate::numbers::Number;
 use crate::passing::PassingRow;
 use crate::puts::{
@@ -94,8 +94,12 @@ impl StoredRow for RoomName {
 }
 
 impl FoundRow for RoomName {
-    fn find<S: Alter>(conn: &mut Connection<S>) -> Result<(), Error> {
-        test_rows::<RoomName, S>(conn, ALL_ROOMS)
+    fn find<S: Alter>(
+        conn: &mut Connection<S>,
+        alloc: Global,
+        keep: bool,
+    ) -> Result<Vec<RoomName>, Error> {
+        take_rows(conn, alloc, ALL_ROOMS, keep)
     }
 }
 
@@ -141,8 +145,12 @@ impl StoredRow for VectorRow {
 }
 
 impl FoundRow for VectorRow {
-    fn find<S: Alter>(conn: &mut Connection<S>) -> Result<(), Error> {
-        test_rows::<VectorRow, S>(conn, ALL_VECTOR)
+    fn find<S: Alter>(
+        conn: &mut Connection<S>,
+        alloc: Global,
+        keep: bool,
+    ) -> Result<Vec<VectorRow>, Error> {
+        take_rows(conn, alloc, ALL_VECTOR, keep)
     }
 }
 
@@ -189,8 +197,12 @@ impl StoredRow for LogRow {
 }
 
 impl FoundRow for LogRow {
-    fn find<S: Alter>(conn: &mut Connection<S>) -> Result<(), Error> {
-        test_rows::<LogRow, S>(conn, ALL_LOGS)
+    fn find<S: Alter>(
+        conn: &mut Connection<S>,
+        alloc: Global,
+        keep: bool,
+    ) -> Result<Vec<LogRow>, Error> {
+        take_rows(conn, alloc, ALL_LOGS, keep)
     }
 }
 
@@ -251,8 +263,12 @@ impl StoredRow for BookingRow {
 }
 
 impl FoundRow for BookingRow {
-    fn find<S: Alter>(conn: &mut Connection<S>) -> Result<(), Error> {
-        test_rows::<BookingRow, S>(conn, ALL_BOOKINGS)
+    fn find<S: Alter>(
+        conn: &mut Connection<S>,
+        alloc: Global,
+        keep: bool,
+    ) -> Result<Vec<BookingRow>, Error> {
+        take_rows(conn, alloc, ALL_BOOKINGS, keep)
     }
 }
 
@@ -326,8 +342,12 @@ impl StoredRow for ErrorRow {
 }
 
 impl FoundRow for ErrorRow {
-    fn find<S: Alter>(conn: &mut Connection<S>) -> Result<(), Error> {
-        test_rows::<ErrorRow, S>(conn, ALL_ERRORS)
+    fn find<S: Alter>(
+        conn: &mut Connection<S>,
+        alloc: Global,
+        keep: bool,
+    ) -> Result<Vec<ErrorRow>, Error> {
+        take_rows(conn, alloc, ALL_ERRORS, keep)
     }
 }
 

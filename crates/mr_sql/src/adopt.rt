@@ -88,8 +88,8 @@ fn find_row<S: Alter>(conn: &mut Connection<S>, alloc: Global) -> Result<MetaRow
         (λ _. (trees : Trees) → IsTakenAs our_schema trees (state S.Store conn.old) → ⊥) }
     ensures cause { IfErr result (λ e. (e ≡ Refusal.OutOfMemory) ⊎ ((e ≡ Refusal.Store) ⊎ (e ≡ Refusal.NotAReplica))) }
 {
-    match find_all(conn, alloc) {
-        Ok(Some(meta)) => Ok(meta),
+    match find_all(conn, alloc, false) {
+        Ok(Some(tables)) => Ok(tables.meta),
         Ok(None) => Err(Refusal::NotAReplica),
         Err(error) => Err(refusal_of(error)),
     }

@@ -1,112 +1,199 @@
-use Rattle.std.proofs.Common.{◌≡◌, [], Ok, rules}
+use Rattle.std.proofs.Common.{◌≡◌, Bool, List, [], None, Some, Option, Ok, sym, rules}
 use Rattle.sqlite_trees.specs.Tree.{Trees}
 use Rattle.sqlite.specs.Held.{state}
+use Rattle.mr_model.specs.Texts.{Text}
+use Rattle.mr_model.specs.Tables.{Tables, MetaRow, VectorRow, LogRow, BookingRow, ErrorRow, CancelledRow, CancelRow}
 use Rattle.mr_rows.specs.Form.{meta_form, room_form, vector_form, log_form, booking_form, error_form, cancelled_form, cancel_form}
 use Rattle.mr_rows.specs.Shown.{AreStoredAs, AreOurRows, IsMeta}
-use Rattle.mr_rows.proofs.QueryLemmas.{looks_then}
+use Rattle.mr_rows.specs.Kept.{AreFound, AreAllFound}
+use Rattle.mr_rows.proofs.FoundLemmas.{meta_is_found}
+use Rattle.mr_rows.proofs.QueryLemmas.{looks_then, looks_made}
 use Rattle.mr_rows.proofs.found.find_all.Goals as goal
 
-abbrev Heads : Trees → Type 0
-Heads t = AreStoredAs room_form t × AreStoredAs vector_form t
+abbrev Heads : Bool → Trees → List Text → List VectorRow → Type 0
+Heads keep t room vector = AreFound room_form (λ t. t.room) keep t room × AreFound vector_form (λ t. t.vector) keep t vector
 
-abbrev Log : Trees → Type 0
-Log t = AreStoredAs log_form t
+abbrev Log : Bool → Trees → List LogRow → Type 0
+Log keep t log = AreFound log_form (λ t. t.log) keep t log
 
-abbrev Board : Trees → Type 0
-Board t = AreStoredAs booking_form t × AreStoredAs error_form t
+abbrev Board : Bool → Trees → List BookingRow → List ErrorRow → Type 0
+Board keep t booking errorlog = AreFound booking_form (λ t. t.booking) keep t booking × AreFound error_form (λ t. t.errorlog) keep t errorlog
 
-abbrev Cancels : Trees → Type 0
-Cancels t = AreStoredAs cancelled_form t × AreStoredAs cancel_form t
+abbrev Cancels : Bool → Trees → List CancelledRow → List CancelRow → Type 0
+Cancels keep t cancelled cancels = AreFound cancelled_form (λ t. t.cancelled) keep t cancelled × AreFound cancel_form (λ t. t.cancels) keep t cancels
 
 abbrev Old : Trees → Type 0
 Old t = (t 6 ≡ []) × (t 8 ≡ [])
 
--- what is found so far
-abbrev Two : Trees → Type 0
-Two t = Heads t × Log t
+abbrev Meta : Trees → Option MetaRow → Type 0
+Meta t m = AreStoredAs meta_form t × IsMeta t m
 
-abbrev Three : Trees → Type 0
-Three t = Two t × Board t
+-- then the rows are ours
+all_ours : (k : Bool) (t : Trees) (room : List Text) (vector : List VectorRow) (log : List LogRow) (booking : List BookingRow) (errorlog : List ErrorRow) (cancelled : List CancelledRow) (cancels : List CancelRow) (m : Option MetaRow)
+    → ((((Heads k t room vector × Log k t log) × Board k t booking errorlog) × Cancels k t cancelled cancels) × Old t) × Meta t m → AreOurRows t
+all_ours k t room vector log booking errorlog cancelled cancels m (p, q) = record {
+  meta = q.0;
+  room = p.0.0.0.0.0.0;
+  vector = p.0.0.0.0.1.0;
+  log = p.0.0.0.1.0;
+  booking = p.0.0.1.0.0;
+  errorlog = p.0.0.1.1.0;
+  cancelled = p.0.1.0.0;
+  cancels = p.0.1.1.0;
+  no_write_log = p.1.0;
+  no_undo = p.1.1;
+}
 
-abbrev Four : Trees → Type 0
-Four t = Three t × Cancels t
+pub returns-in_err-heads-clause-looks : goal.returns-in_err-heads-clause-looks
+returns-in_err-heads-clause-looks g c =
+    let read = c.find_two.ensures.looks in (read.0, read.1, λ clean here. (search rules, search rules))
 
-abbrev Five : Trees → Type 0
-Five t = Four t × Old t
-
-pub returns-in_err-find_heads-clause-looks : goal.returns-in_err-find_heads-clause-looks
-returns-in_err-find_heads-clause-looks g c = let read = c.find_heads.ensures.looks in (read.0, read.1, λ clean here. (search rules, search rules))
-
-pub returns-in_err-find-clause-looks : goal.returns-in_err-find-clause-looks
-returns-in_err-find-clause-looks g c =
+pub returns-in_err-log-clause-looks : goal.returns-in_err-log-clause-looks
+returns-in_err-log-clause-looks g c =
+    let k = c.args.keep in
     let a = state g.S.Store c.args.conn.now in
-    let b = state g.S.Store c.find_heads.new.conn in
-    let d = state g.S.Store c.find.new.conn in
-    let read = looks_then a b d c.in_ok-find_heads.field-0 (λ _. Heads a.now.trees) c.find.result (λ db _. Log db.trees) (λ _. Unit {0}) (λ here y p q. tt) c.in_ok-find_heads.ensures.looks c.find.ensures.looks in
+    let b = state g.S.Store c.find_two.new.conn in
+    let d = state g.S.Store c.find_rows.new.conn in
+    let heads = c.in_ok-heads.heads in
+    let read = looks_then a b d heads (λ r. Heads k a.now.trees r.0.items r.1.items) c.find_rows.result (λ db r. Log k db.trees r.items) (λ _. Unit {0}) (λ here y p q. tt) c.in_ok-heads.ensures.looks c.find_rows.ensures.looks in
     (read.0, read.1, λ clean here. (search rules, search rules))
 
-pub returns-in_err-find_board-clause-looks : goal.returns-in_err-find_board-clause-looks
-returns-in_err-find_board-clause-looks g c =
+pub returns-in_err-board-clause-looks : goal.returns-in_err-board-clause-looks
+returns-in_err-board-clause-looks g c =
+    let k = c.args.keep in
     let a = state g.S.Store c.args.conn.now in
-    let b = state g.S.Store c.find_heads.new.conn in
-    let d = state g.S.Store c.find.new.conn in
-    let e = state g.S.Store c.find_board.new.conn in
-    let two = looks_then a b d c.in_ok-find_heads.field-0 (λ _. Heads a.now.trees) (Ok c.in_ok-find.field-0) (λ db _. Log db.trees) (λ _. Two a.now.trees) (λ here y p q. (p, q)) c.in_ok-find_heads.ensures.looks c.in_ok-find.ensures.looks in
-    let read = looks_then a d e c.in_ok-find.field-0 (λ _. Two a.now.trees) c.find_board.result (λ db _. Board db.trees) (λ _. Unit {0}) (λ here y p q. tt) two c.find_board.ensures.looks in
+    let b = state g.S.Store c.find_two.new.conn in
+    let d = state g.S.Store c.find_rows.new.conn in
+    let e = state g.S.Store c.find_two-2.new.conn in
+    let heads = c.in_ok-heads.heads in
+    let log = c.in_ok-log.log in
+    let two = looks_then a b d heads (λ r. Heads k a.now.trees r.0.items r.1.items) (Ok log) (λ db r. Log k db.trees r.items) (λ r. Heads k a.now.trees heads.0.items heads.1.items × Log k a.now.trees r.items) (λ here y p q. (p, q)) c.in_ok-heads.ensures.looks c.in_ok-log.ensures.looks in
+    let read = looks_then a d e log (λ r. Heads k a.now.trees heads.0.items heads.1.items × Log k a.now.trees r.items) c.find_two-2.result (λ db r. Board k db.trees r.0.items r.1.items) (λ _. Unit {0}) (λ here y p q. tt) two c.find_two-2.ensures.looks in
     (read.0, read.1, λ clean here. (search rules, search rules))
 
-pub returns-in_err-find_cancels-clause-looks : goal.returns-in_err-find_cancels-clause-looks
-returns-in_err-find_cancels-clause-looks g c =
+pub returns-in_err-cancels-clause-looks : goal.returns-in_err-cancels-clause-looks
+returns-in_err-cancels-clause-looks g c =
+    let k = c.args.keep in
     let a = state g.S.Store c.args.conn.now in
-    let b = state g.S.Store c.find_heads.new.conn in
-    let d = state g.S.Store c.find.new.conn in
-    let e = state g.S.Store c.find_board.new.conn in
-    let f = state g.S.Store c.find_cancels.new.conn in
-    let two = looks_then a b d c.in_ok-find_heads.field-0 (λ _. Heads a.now.trees) (Ok c.in_ok-find.field-0) (λ db _. Log db.trees) (λ _. Two a.now.trees) (λ here y p q. (p, q)) c.in_ok-find_heads.ensures.looks c.in_ok-find.ensures.looks in
-    let three = looks_then a d e c.in_ok-find.field-0 (λ _. Two a.now.trees) (Ok c.in_ok-find_board.field-0) (λ db _. Board db.trees) (λ _. Three a.now.trees) (λ here y p q. (p, q)) two c.in_ok-find_board.ensures.looks in
-    let read = looks_then a e f c.in_ok-find_board.field-0 (λ _. Three a.now.trees) c.find_cancels.result (λ db _. Cancels db.trees) (λ _. Unit {0}) (λ here y p q. tt) three c.find_cancels.ensures.looks in
+    let b = state g.S.Store c.find_two.new.conn in
+    let d = state g.S.Store c.find_rows.new.conn in
+    let e = state g.S.Store c.find_two-2.new.conn in
+    let f = state g.S.Store c.find_two-3.new.conn in
+    let heads = c.in_ok-heads.heads in
+    let log = c.in_ok-log.log in
+    let board = c.in_ok-board.board in
+    let two = looks_then a b d heads (λ r. Heads k a.now.trees r.0.items r.1.items) (Ok log) (λ db r. Log k db.trees r.items) (λ r. Heads k a.now.trees heads.0.items heads.1.items × Log k a.now.trees r.items) (λ here y p q. (p, q)) c.in_ok-heads.ensures.looks c.in_ok-log.ensures.looks in
+    let three = looks_then a d e log (λ r. Heads k a.now.trees heads.0.items heads.1.items × Log k a.now.trees r.items) (Ok board) (λ db r. Board k db.trees r.0.items r.1.items) (λ r. (Heads k a.now.trees heads.0.items heads.1.items × Log k a.now.trees log.items) × Board k a.now.trees r.0.items r.1.items) (λ here y p q. (p, q)) two c.in_ok-board.ensures.looks in
+    let read = looks_then a e f board (λ r. (Heads k a.now.trees heads.0.items heads.1.items × Log k a.now.trees log.items) × Board k a.now.trees r.0.items r.1.items) c.find_two-3.result (λ db r. Cancels k db.trees r.0.items r.1.items) (λ _. Unit {0}) (λ here y p q. tt) three c.find_two-3.ensures.looks in
     (read.0, read.1, λ clean here. (search rules, search rules))
 
 pub returns-in_err-find_no_old_logs-clause-looks : goal.returns-in_err-find_no_old_logs-clause-looks
 returns-in_err-find_no_old_logs-clause-looks g c =
+    let k = c.args.keep in
     let a = state g.S.Store c.args.conn.now in
-    let b = state g.S.Store c.find_heads.new.conn in
-    let d = state g.S.Store c.find.new.conn in
-    let e = state g.S.Store c.find_board.new.conn in
-    let f = state g.S.Store c.find_cancels.new.conn in
+    let b = state g.S.Store c.find_two.new.conn in
+    let d = state g.S.Store c.find_rows.new.conn in
+    let e = state g.S.Store c.find_two-2.new.conn in
+    let f = state g.S.Store c.find_two-3.new.conn in
     let h = state g.S.Store c.find_no_old_logs.new.conn in
-    let two = looks_then a b d c.in_ok-find_heads.field-0 (λ _. Heads a.now.trees) (Ok c.in_ok-find.field-0) (λ db _. Log db.trees) (λ _. Two a.now.trees) (λ here y p q. (p, q)) c.in_ok-find_heads.ensures.looks c.in_ok-find.ensures.looks in
-    let three = looks_then a d e c.in_ok-find.field-0 (λ _. Two a.now.trees) (Ok c.in_ok-find_board.field-0) (λ db _. Board db.trees) (λ _. Three a.now.trees) (λ here y p q. (p, q)) two c.in_ok-find_board.ensures.looks in
-    let four = looks_then a e f c.in_ok-find_board.field-0 (λ _. Three a.now.trees) (Ok c.in_ok-find_cancels.field-0) (λ db _. Cancels db.trees) (λ _. Four a.now.trees) (λ here y p q. (p, q)) three c.in_ok-find_cancels.ensures.looks in
-    let read = looks_then a f h c.in_ok-find_cancels.field-0 (λ _. Four a.now.trees) c.find_no_old_logs.result (λ db _. Old db.trees) (λ _. Unit {0}) (λ here y p q. tt) four c.find_no_old_logs.ensures.looks in
+    let heads = c.in_ok-heads.heads in
+    let log = c.in_ok-log.log in
+    let board = c.in_ok-board.board in
+    let cancels = c.in_ok-cancels.cancels in
+    let two = looks_then a b d heads (λ r. Heads k a.now.trees r.0.items r.1.items) (Ok log) (λ db r. Log k db.trees r.items) (λ r. Heads k a.now.trees heads.0.items heads.1.items × Log k a.now.trees r.items) (λ here y p q. (p, q)) c.in_ok-heads.ensures.looks c.in_ok-log.ensures.looks in
+    let three = looks_then a d e log (λ r. Heads k a.now.trees heads.0.items heads.1.items × Log k a.now.trees r.items) (Ok board) (λ db r. Board k db.trees r.0.items r.1.items) (λ r. (Heads k a.now.trees heads.0.items heads.1.items × Log k a.now.trees log.items) × Board k a.now.trees r.0.items r.1.items) (λ here y p q. (p, q)) two c.in_ok-board.ensures.looks in
+    let four = looks_then a e f board (λ r. (Heads k a.now.trees heads.0.items heads.1.items × Log k a.now.trees log.items) × Board k a.now.trees r.0.items r.1.items) (Ok cancels) (λ db r. Cancels k db.trees r.0.items r.1.items) (λ r. ((Heads k a.now.trees heads.0.items heads.1.items × Log k a.now.trees log.items) × Board k a.now.trees board.0.items board.1.items) × Cancels k a.now.trees r.0.items r.1.items) (λ here y p q. (p, q)) three c.in_ok-cancels.ensures.looks in
+    let read = looks_then a f h cancels (λ r. ((Heads k a.now.trees heads.0.items heads.1.items × Log k a.now.trees log.items) × Board k a.now.trees board.0.items board.1.items) × Cancels k a.now.trees r.0.items r.1.items) c.find_no_old_logs.result (λ db _. Old db.trees) (λ _. Unit {0}) (λ here y p q. tt) four c.find_no_old_logs.ensures.looks in
     (read.0, read.1, λ clean here. (search rules, search rules))
 
-pub returns-clause-looks : goal.returns-clause-looks
-returns-clause-looks g c =
+pub returns-in_err-find_meta-clause-looks : goal.returns-in_err-find_meta-clause-looks
+returns-in_err-find_meta-clause-looks g c =
+    let k = c.args.keep in
     let a = state g.S.Store c.args.conn.now in
-    let b = state g.S.Store c.find_heads.new.conn in
-    let d = state g.S.Store c.find.new.conn in
-    let e = state g.S.Store c.find_board.new.conn in
-    let f = state g.S.Store c.find_cancels.new.conn in
+    let b = state g.S.Store c.find_two.new.conn in
+    let d = state g.S.Store c.find_rows.new.conn in
+    let e = state g.S.Store c.find_two-2.new.conn in
+    let f = state g.S.Store c.find_two-3.new.conn in
     let h = state g.S.Store c.find_no_old_logs.new.conn in
     let m = state g.S.Store c.find_meta.new.conn in
-    let two = looks_then a b d c.in_ok-find_heads.field-0 (λ _. Heads a.now.trees) (Ok c.in_ok-find.field-0) (λ db _. Log db.trees) (λ _. Two a.now.trees) (λ here y p q. (p, q)) c.in_ok-find_heads.ensures.looks c.in_ok-find.ensures.looks in
-    let three = looks_then a d e c.in_ok-find.field-0 (λ _. Two a.now.trees) (Ok c.in_ok-find_board.field-0) (λ db _. Board db.trees) (λ _. Three a.now.trees) (λ here y p q. (p, q)) two c.in_ok-find_board.ensures.looks in
-    let four = looks_then a e f c.in_ok-find_board.field-0 (λ _. Three a.now.trees) (Ok c.in_ok-find_cancels.field-0) (λ db _. Cancels db.trees) (λ _. Four a.now.trees) (λ here y p q. (p, q)) three c.in_ok-find_cancels.ensures.looks in
-    let five = looks_then a f h c.in_ok-find_cancels.field-0 (λ _. Four a.now.trees) (Ok c.in_ok-find_no_old_logs.field-0) (λ db _. Old db.trees) (λ _. Five a.now.trees) (λ here y p q. (p, q)) four c.in_ok-find_no_old_logs.ensures.looks in
-    looks_then a h m c.in_ok-find_no_old_logs.field-0 (λ _. Five a.now.trees) c.find_meta.result (λ db row. AreStoredAs meta_form db.trees × IsMeta db.trees row) (λ row. AreOurRows a.now.trees × IsMeta a.now.trees row)
-    (λ here row p q. (
-      record {
-        meta = q.0;
-        room = p.0.0.0.0.0;
-        vector = p.0.0.0.0.1;
-        log = p.0.0.0.1;
-        booking = p.0.0.1.0;
-        errorlog = p.0.0.1.1;
-        cancelled = p.0.1.0;
-        cancels = p.0.1.1;
-        no_write_log = p.1.0;
-        no_undo = p.1.1;
-      },
-      q.1,
-    )) five c.find_meta.ensures.looks
+    let heads = c.in_ok-heads.heads in
+    let log = c.in_ok-log.log in
+    let board = c.in_ok-board.board in
+    let cancels = c.in_ok-cancels.cancels in
+    let o = c.in_ok-find_no_old_logs.field-0 in
+    let two = looks_then a b d heads (λ r. Heads k a.now.trees r.0.items r.1.items) (Ok log) (λ db r. Log k db.trees r.items) (λ r. Heads k a.now.trees heads.0.items heads.1.items × Log k a.now.trees r.items) (λ here y p q. (p, q)) c.in_ok-heads.ensures.looks c.in_ok-log.ensures.looks in
+    let three = looks_then a d e log (λ r. Heads k a.now.trees heads.0.items heads.1.items × Log k a.now.trees r.items) (Ok board) (λ db r. Board k db.trees r.0.items r.1.items) (λ r. (Heads k a.now.trees heads.0.items heads.1.items × Log k a.now.trees log.items) × Board k a.now.trees r.0.items r.1.items) (λ here y p q. (p, q)) two c.in_ok-board.ensures.looks in
+    let four = looks_then a e f board (λ r. (Heads k a.now.trees heads.0.items heads.1.items × Log k a.now.trees log.items) × Board k a.now.trees r.0.items r.1.items) (Ok cancels) (λ db r. Cancels k db.trees r.0.items r.1.items) (λ r. ((Heads k a.now.trees heads.0.items heads.1.items × Log k a.now.trees log.items) × Board k a.now.trees board.0.items board.1.items) × Cancels k a.now.trees r.0.items r.1.items) (λ here y p q. (p, q)) three c.in_ok-cancels.ensures.looks in
+    let five = looks_then a f h cancels (λ r. ((Heads k a.now.trees heads.0.items heads.1.items × Log k a.now.trees log.items) × Board k a.now.trees board.0.items board.1.items) × Cancels k a.now.trees r.0.items r.1.items) (Ok o) (λ db _. Old db.trees) (λ r. (((Heads k a.now.trees heads.0.items heads.1.items × Log k a.now.trees log.items) × Board k a.now.trees board.0.items board.1.items) × Cancels k a.now.trees cancels.0.items cancels.1.items) × Old a.now.trees) (λ here y p q. (p, q)) four c.in_ok-find_no_old_logs.ensures.looks in
+    let read = looks_then a h m o (λ r. (((Heads k a.now.trees heads.0.items heads.1.items × Log k a.now.trees log.items) × Board k a.now.trees board.0.items board.1.items) × Cancels k a.now.trees cancels.0.items cancels.1.items) × Old a.now.trees) c.find_meta.result (λ db r. Meta db.trees r) (λ _. Unit {0}) (λ here y p q. tt) five c.find_meta.ensures.looks in
+    (read.0, read.1, λ clean here. (search rules, search rules))
+
+pub returns-in-None-clause-looks : goal.returns-in-None-clause-looks
+returns-in-None-clause-looks g c =
+    let k = c.args.keep in
+    let a = state g.S.Store c.args.conn.now in
+    let b = state g.S.Store c.find_two.new.conn in
+    let d = state g.S.Store c.find_rows.new.conn in
+    let e = state g.S.Store c.find_two-2.new.conn in
+    let f = state g.S.Store c.find_two-3.new.conn in
+    let h = state g.S.Store c.find_no_old_logs.new.conn in
+    let m = state g.S.Store c.find_meta.new.conn in
+    let heads = c.in_ok-heads.heads in
+    let log = c.in_ok-log.log in
+    let board = c.in_ok-board.board in
+    let cancels = c.in_ok-cancels.cancels in
+    let o = c.in_ok-find_no_old_logs.field-0 in
+    let two = looks_then a b d heads (λ r. Heads k a.now.trees r.0.items r.1.items) (Ok log) (λ db r. Log k db.trees r.items) (λ r. Heads k a.now.trees heads.0.items heads.1.items × Log k a.now.trees r.items) (λ here y p q. (p, q)) c.in_ok-heads.ensures.looks c.in_ok-log.ensures.looks in
+    let three = looks_then a d e log (λ r. Heads k a.now.trees heads.0.items heads.1.items × Log k a.now.trees r.items) (Ok board) (λ db r. Board k db.trees r.0.items r.1.items) (λ r. (Heads k a.now.trees heads.0.items heads.1.items × Log k a.now.trees log.items) × Board k a.now.trees r.0.items r.1.items) (λ here y p q. (p, q)) two c.in_ok-board.ensures.looks in
+    let four = looks_then a e f board (λ r. (Heads k a.now.trees heads.0.items heads.1.items × Log k a.now.trees log.items) × Board k a.now.trees r.0.items r.1.items) (Ok cancels) (λ db r. Cancels k db.trees r.0.items r.1.items) (λ r. ((Heads k a.now.trees heads.0.items heads.1.items × Log k a.now.trees log.items) × Board k a.now.trees board.0.items board.1.items) × Cancels k a.now.trees r.0.items r.1.items) (λ here y p q. (p, q)) three c.in_ok-cancels.ensures.looks in
+    let five = looks_then a f h cancels (λ r. ((Heads k a.now.trees heads.0.items heads.1.items × Log k a.now.trees log.items) × Board k a.now.trees board.0.items board.1.items) × Cancels k a.now.trees r.0.items r.1.items) (Ok o) (λ db _. Old db.trees) (λ r. (((Heads k a.now.trees heads.0.items heads.1.items × Log k a.now.trees log.items) × Board k a.now.trees board.0.items board.1.items) × Cancels k a.now.trees cancels.0.items cancels.1.items) × Old a.now.trees) (λ here y p q. (p, q)) four c.in_ok-find_no_old_logs.ensures.looks in
+    let all = looks_then a h m o (λ r. (((Heads k a.now.trees heads.0.items heads.1.items × Log k a.now.trees log.items) × Board k a.now.trees board.0.items board.1.items) × Cancels k a.now.trees cancels.0.items cancels.1.items) × Old a.now.trees) (Ok None) (λ db r. Meta db.trees r) (λ r. ((((Heads k a.now.trees heads.0.items heads.1.items × Log k a.now.trees log.items) × Board k a.now.trees board.0.items board.1.items) × Cancels k a.now.trees cancels.0.items cancels.1.items) × Old a.now.trees) × Meta a.now.trees r) (λ here r p q. (p, q)) five (rw c.in-None.is at c.in_ok-find_meta.ensures.looks) in
+    looks_made a m None (λ r. ((((Heads k a.now.trees heads.0.items heads.1.items × Log k a.now.trees log.items) × Board k a.now.trees board.0.items board.1.items) × Cancels k a.now.trees cancels.0.items cancels.1.items) × Old a.now.trees) × Meta a.now.trees r) (Ok None) (AreAllFound k a.now.trees) (λ here all. (all_ours k a.now.trees _ _ _ _ _ _ _ None all, all.1.1)) all
+
+pub returns-in-Some-clause-looks : goal.returns-in-Some-clause-looks
+returns-in-Some-clause-looks g c =
+    let k = c.args.keep in
+    let a = state g.S.Store c.args.conn.now in
+    let b = state g.S.Store c.find_two.new.conn in
+    let d = state g.S.Store c.find_rows.new.conn in
+    let e = state g.S.Store c.find_two-2.new.conn in
+    let f = state g.S.Store c.find_two-3.new.conn in
+    let h = state g.S.Store c.find_no_old_logs.new.conn in
+    let m = state g.S.Store c.find_meta.new.conn in
+    let heads = c.in_ok-heads.heads in
+    let log = c.in_ok-log.log in
+    let board = c.in_ok-board.board in
+    let cancels = c.in_ok-cancels.cancels in
+    let o = c.in_ok-find_no_old_logs.field-0 in
+    let two = looks_then a b d heads (λ r. Heads k a.now.trees r.0.items r.1.items) (Ok log) (λ db r. Log k db.trees r.items) (λ r. Heads k a.now.trees heads.0.items heads.1.items × Log k a.now.trees r.items) (λ here y p q. (p, q)) c.in_ok-heads.ensures.looks c.in_ok-log.ensures.looks in
+    let three = looks_then a d e log (λ r. Heads k a.now.trees heads.0.items heads.1.items × Log k a.now.trees r.items) (Ok board) (λ db r. Board k db.trees r.0.items r.1.items) (λ r. (Heads k a.now.trees heads.0.items heads.1.items × Log k a.now.trees log.items) × Board k a.now.trees r.0.items r.1.items) (λ here y p q. (p, q)) two c.in_ok-board.ensures.looks in
+    let four = looks_then a e f board (λ r. (Heads k a.now.trees heads.0.items heads.1.items × Log k a.now.trees log.items) × Board k a.now.trees r.0.items r.1.items) (Ok cancels) (λ db r. Cancels k db.trees r.0.items r.1.items) (λ r. ((Heads k a.now.trees heads.0.items heads.1.items × Log k a.now.trees log.items) × Board k a.now.trees board.0.items board.1.items) × Cancels k a.now.trees r.0.items r.1.items) (λ here y p q. (p, q)) three c.in_ok-cancels.ensures.looks in
+    let five = looks_then a f h cancels (λ r. ((Heads k a.now.trees heads.0.items heads.1.items × Log k a.now.trees log.items) × Board k a.now.trees board.0.items board.1.items) × Cancels k a.now.trees r.0.items r.1.items) (Ok o) (λ db _. Old db.trees) (λ r. (((Heads k a.now.trees heads.0.items heads.1.items × Log k a.now.trees log.items) × Board k a.now.trees board.0.items board.1.items) × Cancels k a.now.trees cancels.0.items cancels.1.items) × Old a.now.trees) (λ here y p q. (p, q)) four c.in_ok-find_no_old_logs.ensures.looks in
+    let t : Tables = record {
+      meta = c.in-Some.meta;
+      room = heads.0.items;
+      vector = heads.1.items;
+      log = log.items;
+      booking = board.0.items;
+      errorlog = board.1.items;
+      cancelled = cancels.0.items;
+      cancels = cancels.1.items;
+    } in
+    let all = looks_then a h m o (λ r. (((Heads k a.now.trees heads.0.items heads.1.items × Log k a.now.trees log.items) × Board k a.now.trees board.0.items board.1.items) × Cancels k a.now.trees cancels.0.items cancels.1.items) × Old a.now.trees) (Ok (Some c.in-Some.meta)) (λ db r. Meta db.trees r) (λ r. ((((Heads k a.now.trees heads.0.items heads.1.items × Log k a.now.trees log.items) × Board k a.now.trees board.0.items board.1.items) × Cancels k a.now.trees cancels.0.items cancels.1.items) × Old a.now.trees) × Meta a.now.trees r) (λ here r p q. (p, q)) five (rw c.in-Some.is at c.in_ok-find_meta.ensures.looks) in
+    looks_made a m (Some c.in-Some.meta) (λ r. ((((Heads k a.now.trees heads.0.items heads.1.items × Log k a.now.trees log.items) × Board k a.now.trees board.0.items board.1.items) × Cancels k a.now.trees cancels.0.items cancels.1.items) × Old a.now.trees) × Meta a.now.trees r) (Ok (Some t)) (AreAllFound k a.now.trees)
+    (λ here all. (
+      all_ours k a.now.trees _ _ _ _ _ _ _ (Some c.in-Some.meta) all,
+      all.1.1,
+      λ kept held.
+          let of_meta = sym (meta_is_found a.now.trees c.in-Some.meta all.1.1) in
+          let p = all.0 in λ i. record {
+            meta = of_meta i;
+            room = p.0.0.0.0.0.1 kept held i;
+            vector = p.0.0.0.0.1.1 kept held i;
+            log = p.0.0.0.1.1 kept held i;
+            booking = p.0.0.1.0.1 kept held i;
+            errorlog = p.0.0.1.1.1 kept held i;
+            cancelled = p.0.1.0.1 kept held i;
+            cancels = p.0.1.1.1 kept held i;
+          },
+    )) all

@@ -1,8 +1,10 @@
-use Rattle.std.proofs.Common.{None, subst}
+use Rattle.std.proofs.Common.{None, sym, subst}
 use Rattle.sqlite.specs.Held.{state}
 use Rattle.mr_rows.specs.Shown.{IsMeta}
 use Rattle.mr_rows.specs.Reads.{IsPlaced}
 use Rattle.mr_rows.specs.Schema.{our_schema}
+use Rattle.mr_model.specs.Tables.{Tables}
+use Rattle.mr_sql.specs.Found.{IsFound}
 use Rattle.mr_sql.proofs.TakenLemmas.{finds}
 use Rattle.mr_sql.proofs.CrashLemmas.{placed_looked}
 use Rattle.mr_sql.proofs.adopt.find_row.Goals as goal
@@ -14,7 +16,7 @@ returns-in-Ok-Some-clause-found g c trees clean taken now =
     let placed : IsPlaced old = record { schema = taken.1; settled = taken.0.settled } in
     let looks = rw c.in-Ok-Some.field-0-is at c.in-Ok-Some.ensures.looks in
     let told = (looks.2 clean placed).1 in
-    finds trees _ old new taken.0 taken.1 ((looks.1 clean now).1 placed) told.0 told.1
+    subst (λ (t : Tables). IsFound trees t.meta new) (sym c.tables.view_is) (finds trees _ old new taken.0 taken.1 ((looks.1 clean now).1 placed) told.0 told.1)
 
 pub returns-in-Ok-None-clause-strange : goal.returns-in-Ok-None-clause-strange
 returns-in-Ok-None-clause-strange g c trees clean taken is =

@@ -1,15 +1,16 @@
 use Rattle.sqlite.specs.Held.{state}
 use Rattle.mr_rows.specs.Form.{room_form}
 use Rattle.mr_rows.proofs.StatementMeaning.{all_room_text, all_room_is}
-use Rattle.mr_rows.proofs.SelectLemmas.{sees_all_room}
-use Rattle.mr_rows.proofs.FoundLemmas.{found_by}
+use Rattle.mr_rows.proofs.SelectLemmas.{sees_all_room, shows_all_room}
+use Rattle.mr_rows.proofs.FoundLemmas.{taken_by}
 use Rattle.mr_rows.proofs.table_rows.RoomNameFoundRow.find.Goals as goal
 
-pub test_rows-requires-clause-plain : goal.test_rows-requires-clause-plain
-test_rows-requires-clause-plain g c = all_room_is.0.1
+pub take_rows-requires-clause-plain : goal.take_rows-requires-clause-plain
+take_rows-requires-clause-plain g c = all_room_is.0.1
 
 pub returns-clause-looks : goal.returns-clause-looks
 returns-clause-looks g c =
     let old = state g.S.Store c.args.conn.now in
-    let new = state g.S.Store c.test_rows.new.conn in
-    found_by room_form all_room_text old new c.test_rows.result (λ r is. is) (λ rows. sees_all_room old new rows) c.test_rows.ensures.looks
+    let new = state g.S.Store c.take_rows.new.conn in
+    taken_by room_form (λ t. t.room) c.args.keep all_room_text old new c.take_rows.result (λ out. out.items) (λ r is. is) (λ rows. sees_all_room old new rows) (λ rows. shows_all_room old new rows)
+    c.take_rows.ensures.looks

@@ -1,14 +1,13 @@
 use Rattle.std.proofs.Common.{◌≡◌, false, [], Ok}
-use Rattle.std.specs.List.{AllByRecursion}
 use Rattle.sqlite.specs.Held.{state}
 use Rattle.mr_rows.specs.Reads.{Looks}
-use Rattle.mr_rows.specs.Shown.{IsShownAs}
+use Rattle.mr_rows.specs.Kept.{AreTaken}
 use Rattle.mr_rows.proofs.StreamedRows.{SoFar}
-use Rattle.mr_rows.proofs.found.test_rows.Given as goal
+use Rattle.mr_rows.proofs.found.take_rows.Given as goal
 
--- the rows that were given so far passed, and nothing has changed
+-- the rows that were given so far are taken, and nothing has changed
 abbrev pub invariant-rows : goal.invariant-rows
 invariant-rows g l =
     let old = state g.S.Store l.fn.conn in
     (l.rows.conn.ghost_name ≡ l.initial.rows.conn.ghost_name) × (l.rows.conn.now.in_transaction ≡ false)
-    × Looks {X = Unit {0}} old (state g.S.Store l.rows.conn.now) (Ok tt) (λ _. SoFar g.S.Store l.sql [] (AllByRecursion (IsShownAs g.R.StoredRow.form)) old l.rows.conn.now)
+    × Looks {X = Unit {0}} old (state g.S.Store l.rows.conn.now) (Ok tt) (λ _. SoFar g.S.Store l.sql [] (AreTaken g.R.StoredRow.form l.keep l.out.items) old l.rows.conn.now)

@@ -1,10 +1,9 @@
 use Rattle.std.proofs.Common.{[], Ok, ◌∙◌, refl, rules}
-use Rattle.std.specs.List.{AllByRecursion}
 use Rattle.sqlite.specs.Given.{row_if}
 use Rattle.sqlite.specs.Held.{state}
-use Rattle.mr_rows.specs.Shown.{IsShownAs}
-use Rattle.mr_rows.proofs.StreamedRows.{all_more, begun, refused, advanced, none_left, one_done}
-use Rattle.mr_rows.proofs.found.test_rows.Goals as goal
+use Rattle.mr_rows.specs.Kept.{AreTaken}
+use Rattle.mr_rows.proofs.StreamedRows.{taken_more, begun, refused, advanced, none_left, one_done}
+use Rattle.mr_rows.proofs.found.take_rows.Goals as goal
 
 pub returns-in_err-rows-clause-looks : goal.returns-in_err-rows-clause-looks
 returns-in_err-rows-clause-looks g c =
@@ -14,13 +13,13 @@ returns-in_err-rows-clause-looks g c =
 pub rows-init : goal.rows-init
 rows-init g c =
     let made = c.in_ok-rows.ensures in
-    (refl, made.mode c.requires.autocommit, begun g.S.Store c.args.sql.now [] c.requires.plain (AllByRecursion (IsShownAs g.R.StoredRow.form)) c.args.conn.now c.in_ok-rows.rows.conn.now made.begun made.survives tt)
+    (refl, made.mode c.requires.autocommit, begun g.S.Store c.args.sql.now [] c.requires.plain (AreTaken g.R.StoredRow.form c.args.keep c.new-out.result.items) c.args.conn.now c.in_ok-rows.rows.conn.now made.begun made.survives (tt, λ kept. search rules))
 
 pub returns-in_err-advance-clause-looks : goal.returns-in_err-advance-clause-looks
 returns-in_err-advance-clause-looks g c =
     let moved = c.advance.ensures in
     let new = c.advance.new.self in
-    let Q = AllByRecursion (IsShownAs g.R.StoredRow.form) in
+    let Q = AreTaken g.R.StoredRow.form c.args.keep c.rows.out.items in
     let first = state g.S.Store c.args.conn.now in
     let row = row_if new.has_row new.conn.now in
     let read = advanced g.S.Store c.args.sql.now [] c.requires.plain Q first c.rows.rows.conn.now new.conn.now c.advance.result row c.rows.invariant.2 moved.ok moved.same moved.kept moved.survives in
@@ -28,11 +27,11 @@ returns-in_err-advance-clause-looks g c =
     let left = read.1 in
     (search rules, search rules, λ clean here. (search rules, search rules))
 
-pub returns-in_err-test-in-Some-clause-looks : goal.returns-in_err-test-in-Some-clause-looks
-returns-in_err-test-in-Some-clause-looks g c =
+pub returns-in_err-take_row-in-Some-clause-looks : goal.returns-in_err-take_row-in-Some-clause-looks
+returns-in_err-take_row-in-Some-clause-looks g c =
     let moved = c.advance.ensures in
     let new = c.advance.new.self in
-    let Q = AllByRecursion (IsShownAs g.R.StoredRow.form) in
+    let Q = AreTaken g.R.StoredRow.form c.args.keep c.rows.out.items in
     let first = state g.S.Store c.args.conn.now in
     let row = row_if new.has_row new.conn.now in
     let read = advanced g.S.Store c.args.sql.now [] c.requires.plain Q first c.rows.rows.conn.now new.conn.now c.advance.result row c.rows.invariant.2 moved.ok moved.same moved.kept moved.survives in
@@ -44,7 +43,7 @@ pub returns-in-None-clause-looks : goal.returns-in-None-clause-looks
 returns-in-None-clause-looks g c =
     let moved = c.in_ok-advance.ensures in
     let new = c.advance.new.self in
-    let Q = AllByRecursion (IsShownAs g.R.StoredRow.form) in
+    let Q = AreTaken g.R.StoredRow.form c.args.keep c.rows.out.items in
     let first = state g.S.Store c.args.conn.now in
     let row = row_if new.has_row new.conn.now in
     let read = advanced g.S.Store c.args.sql.now [] c.requires.plain Q first c.rows.rows.conn.now new.conn.now (Ok (tt {0})) row c.rows.invariant.2 moved.ok moved.same moved.kept moved.survives in
@@ -58,12 +57,13 @@ pub rows-preserved : goal.rows-preserved
 rows-preserved g c =
     let moved = c.in_ok-advance.ensures in
     let new = c.advance.new.self in
-    let Q = AllByRecursion (IsShownAs g.R.StoredRow.form) in
+    let Q = AreTaken g.R.StoredRow.form c.args.keep c.rows.out.items in
     let first = state g.S.Store c.args.conn.now in
     let row = row_if new.has_row new.conn.now in
-    let read = advanced g.S.Store c.args.sql.now [] c.requires.plain Q first c.rows.rows.conn.now new.conn.now (Ok (tt {0})) row c.rows.invariant.2 moved.ok moved.same moved.kept moved.survives in (
+    let read = advanced g.S.Store c.args.sql.now [] c.requires.plain Q first c.rows.rows.conn.now new.conn.now (Ok (tt {0})) row c.rows.invariant.2 moved.ok moved.same moved.kept moved.survives in
+    let Next = AreTaken g.R.StoredRow.form c.args.keep c.take_row.new.out.items in (
       moved.same_reference ∙ c.rows.invariant.0,
       moved.mode c.rows.invariant.1,
-      one_done g.S.Store c.args.sql.now [] c.requires.plain Q Q first new.conn.now row c.in-Some.row.now c.in-Some.ensures
-          (λ rows all. all_more (IsShownAs g.R.StoredRow.form) rows c.in-Some.row.now c.in_ok-test-in-Some.ensures.passes all) read,
+      one_done g.S.Store c.args.sql.now [] c.requires.plain Q Next first new.conn.now row c.in-Some.row.now c.in-Some.ensures
+          (λ rows far. taken_more g.R.StoredRow.form c.args.keep c.rows.out.items c.take_row.new.out.items rows c.in-Some.row.now c.in_ok-take_row-in-Some.ensures.shown c.in_ok-take_row-in-Some.ensures.kept far) read,
     )
