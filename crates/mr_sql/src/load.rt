@@ -15,8 +15,8 @@ ghost use Rattle.mr_rows.specs.Reads.{ReadsKept};
 
 use crate::next_ids::with_free_id;
 use crate::scope_rows::read_scope;
-use mr_audit::do_tables_agree;
 use mr_base::Refusal;
+use mr_first::moved_tables::agreeing;
 use mr_part::{Part, Scope};
 use mr_replica::Desk;
 use mr_rows::all_tables::read_tables;
@@ -45,18 +45,6 @@ pub(crate) fn load_desk<S: Alter>(conn: &mut Connection<S>, alloc: Global) -> Re
 {
     let tables = read_tables(conn, alloc)?;
     desk_of(alloc, &tables)
-}
-
-/// These tables, if their rows agree with each other.
-fn agreeing(alloc: Global, tables: Tables) -> Result<Tables, Error>
-    ensures same { IfOk result (λ agreeing. agreeing ≡ tables) }
-    ensures agree { IfOk result (λ agreeing. agree tables ≡ true) }
-{
-    match do_tables_agree(alloc, &tables) {
-        Ok(true) => Ok(tables),
-        Ok(false) => Err(Error::InvalidQuery),
-        Err(_) => Err(Error::SqliteFailure(ErrorCode::OutOfMemory)),
-    }
 }
 
 /// All tables of this database, if their rows agree with each other.
