@@ -1,5 +1,5 @@
 -- Rows that stand under the cells of their ids: what look-ups find among them, and what they are with a row put or without one.
-use Rattle.std.proofs.Common.{◌≡◌, refl, sym, ap, ◌∙◌, subst, ℕ, Bool, true, false, cond, not, ◌&&◌, ◌||◌, ◌==◌, nat_lt, List, [], ◌∷◌, ◌++◌, inl, inr, Some, None}
+use Rattle.std.proofs.Common.{◌≡◌, refl, sym, ap, ◌∙◌, subst, ℕ, Bool, true, false, cond, not, ◌&&◌, ◌||◌, ◌==◌, nat_lt, List, [], ◌∷◌, ◌++◌, map, inl, inr, Some, None}
 use Rattle.std.specs.BTreeMap.{insert_entry, is_at}
 use Rattle.std.specs.List.{AllByRecursion, filter, find, list_any}
 use Rattle.std.specs.Map.{values_of, lookup, remove_entry}
@@ -12,8 +12,9 @@ use Rattle.std.proofs.lemmas.List.{append_assoc}
 use Rattle.mr_model.specs.Dropped.{Has}
 use Rattle.mr_model.specs.Replica.{is_among}
 use Rattle.mr_model.specs.Writes.{Id, same_id}
-use Rattle.mr_model.proofs.Members.{all_has, has_right, same_id-true, sorted_filter}
+use Rattle.mr_model.proofs.Members.{all_has, has_right, map_has, not_among, same_id-true, sorted_filter}
 use Rattle.mr_base.specs.Ids.{id_cmp}
+use Rattle.mr_replay.specs.Holds.{AreDistinct}
 use Rattle.mr_replay.proofs.IdKeys.{exact_ids, ids_total, at_is, same_id_equivalence}
 use Rattle.mr_tables.specs.Change.{id_before, put, rows_without}
 use Rattle.mr_tables.proofs.Putting.{InOrder, id_order, put_in_order}
@@ -70,6 +71,15 @@ module _ {R : Type 0} (id : R → Id) where
   one_row (z ∷ rows) s x y (inl a) (inr g) e = absurd (id_order.irreflexive (id z) (subst (λ i. id_before (id z) i ≡ true) (sym e ∙ ap id a) (all_has (λ u. id_before (id z) (id u) ≡ true) y rows s.0 g)))
   one_row (z ∷ rows) s x y (inr h) (inl b) e = absurd (id_order.irreflexive (id z) (subst (λ i. id_before (id z) i ≡ true) (e ∙ ap id b) (all_has (λ u. id_before (id z) (id u) ≡ true) x rows s.0 h)))
   one_row (z ∷ rows) s x y (inr h) (inr g) e = one_row rows s.1 x y h g e
+
+  pub distinct_ids : (rows : List R) → InOrder id_before id rows → AreDistinct (map id rows)
+  distinct_ids [] s = tt
+  distinct_ids (x ∷ rows) s = (
+    not_among (id x) (map id rows) (λ h.
+        let (y, there, e) = map_has id (id x) rows h in
+        id_order.irreflexive (id x) (subst (λ i. id_before (id x) i ≡ true) (sym e) (all_has (λ u. id_before (id x) (id u) ≡ true) y rows s.0 there))),
+    distinct_ids rows s.1,
+  )
 
   abbrev pub with_id : Id → List R → List R
   with_id i rows = filter (λ r. same_id (id r) i) rows

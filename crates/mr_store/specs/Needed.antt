@@ -13,3 +13,13 @@ is_log_needed (NextCommits count) row = is_tentative row
 is_log_needed (UpTo number) row = within 1 number row.seq
 is_log_needed (Above commits) row = is_above commits row
 is_log_needed (OfItems items) row = true
+
+-- the scope has the bookings of rooms
+abbrev pub is_of_rooms : Scope → Bool
+is_of_rooms Nothing = false
+is_of_rooms (InRoom room) = true
+is_of_rooms (OfTarget target) = false
+is_of_rooms (NextCommits count) = false
+is_of_rooms (UpTo number) = false
+is_of_rooms (Above commits) = false
+is_of_rooms (OfItems items) = true

@@ -1,9 +1,10 @@
-ghost use Rattle.std.specs.Prelude.{◌≡◌, ◌&&◌, ◌∷◌, [], bytes_eq, filter, find, IfOk, OnOk, OnErr};
+ghost use Rattle.std.specs.Prelude.{◌≡◌, ◌&&◌, ◌∷◌, [], bytes_eq, filter, find, map, IfOk, OnOk, OnErr};
 ghost use Rattle.std.specs.List.{list_any};
 ghost use Rattle.std.specs.Option.{option_copied, option_to_list};
 ghost use Rattle.mr_model.specs.Writes.{same_id};
 ghost use Rattle.mr_tables.specs.Change.{id_before, put, put_all, rows_without};
 ghost use Rattle.mr_tables.proofs.Putting.{InOrder};
+ghost use Rattle.mr_replay.specs.Holds.{AreDistinct};
 ghost use Rattle.mr_part.specs.ScopeOf.{scope_of};
 ghost use Rattle.mr_store.specs.Needed.{is_log_needed};
 ghost use Rattle.mr_store.specs.Keyed.{cells_of_id, if_passes};
@@ -73,6 +74,13 @@ impl<R: IdRow> RowMap<R> {
         ensures { result ≡ list_any (λ r. same_id (R.id r) id) self.now }
     {
         self.rows.contains_key(&cells_of(id))
+    }
+
+    /// Says to proofs that no id stands twice. It does nothing.
+    pub(crate) fn is_by_id(&self)
+        ensures { AreDistinct (map R.id self.now) }
+    {
+        let _ = &self.rows;
     }
 
     /// Puts the row, in the place of the one of its write.
