@@ -14,6 +14,8 @@ pub mod ChoiceTexts
 pub mod LimitsKept
 pub mod QueryLemmas
 pub mod StreamedRows
+pub mod CauseLemmas
+pub mod SureTexts
 pub mod FirstLemmas
 pub mod AskedLemmas
 pub mod AddedRows

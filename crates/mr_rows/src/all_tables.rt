@@ -1,7 +1,9 @@
-ghost use Rattle.std.specs.Prelude.{◌≡◌, false};
+ghost use Rattle.std.specs.Prelude.{◌≡◌, false, length};
 ghost use Rattle.sqlite.specs.Held.{state};
 ghost use Rattle.mr_rows.specs.Database.{tables_in};
+ghost use Rattle.mr_rows.specs.Shown.{AreOurRows};
 ghost use Rattle.mr_rows.specs.Reads.{ReadsKept};
+ghost use Rattle.mr_rows.specs.Causes.{FailsByStore};
 
 use crate::found::find_all;
 use crate::meta_row::the_meta;
@@ -33,6 +35,7 @@ pub fn read_tables<S: Alter>(conn: &mut Connection<S>, alloc: Global) -> Result<
     requires autocommit { conn.old.in_transaction ≡ false }
     ensures autocommit { conn.new.in_transaction ≡ false }
     ensures reads { ReadsKept (state S.Store conn.old) (state S.Store conn.new) result (λ tables. tables ≡ tables_in (state S.Store conn.old).now.trees) }
+    ensures cause { FailsByStore (λ trees. AreOurRows trees × (length (trees 0) ≡ 1)) (state S.Store conn.old) (state S.Store conn.new) result }
 {
     match find_all(conn, alloc, true)? {
         Some(tables) => Ok(tables),

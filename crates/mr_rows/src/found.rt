@@ -1,4 +1,4 @@
-ghost use Rattle.std.specs.Prelude.{◌≡◌, [], ◌∷◌, ◌++◌, false, map, IfOk, OnOk, IsTrue};
+ghost use Rattle.std.specs.Prelude.{◌≡◌, ◌≢◌, [], ◌∷◌, ◌++◌, ◌≤◌, false, length, map, IfOk, IfErr, OnOk, IsTrue, ⊤};
 ghost use Rattle.std.specs.List.{All};
 ghost use Rattle.sqlite_value.specs.declared.value.Value.TheVariants.{Null};
 ghost use Rattle.sqlite.specs.Given.{IsPlain};
@@ -7,9 +7,10 @@ ghost use Rattle.sqlite.specs.Held.{state};
 ghost use Rattle.mr_rows.specs.Schema.{our_schema};
 ghost use Rattle.mr_rows.specs.RowCells.{meta_in};
 ghost use Rattle.mr_rows.specs.Form.{meta_form};
-ghost use Rattle.mr_rows.specs.Shown.{IsShownSo, IsShownAs, AreStoredAs, IsMeta, listed};
+ghost use Rattle.mr_rows.specs.Shown.{IsShownSo, IsShownAs, AreStoredAs, AreOurRows, IsMeta, listed};
 ghost use Rattle.mr_rows.specs.Kept.{AreTaken, AreFound, AreAllFound};
 ghost use Rattle.mr_rows.specs.Reads.{Looks};
+ghost use Rattle.mr_rows.specs.Causes.{FailsByStore, IsSure, ShowsOnly};
 
 use crate::meta_row::read_meta;
 use crate::order::sort_rows;
@@ -19,7 +20,7 @@ use mr_base::RoomName;
 use mr_tables::{
     BookingRow, CancelRow, CancelledRow, ErrorRow, LogRow, MetaRow, Tables, VectorRow,
 };
-use sqlite::{Alter, Connection, Error, Row};
+use sqlite::{Alter, Connection, Error, ErrorCode, Row};
 use std::alloc::Global;
 
 // One pass over all rows of all tables tests each, so that a row that breaks the table's rules or the limits is found. They come one at a time, and
@@ -28,6 +29,7 @@ use std::alloc::Global;
 fn only_meta(rows: &[Row]) -> Result<Option<MetaRow>, Error>
     ensures whole { OnOk result (All (IsShownAs meta_form) rows.now) }
     ensures row { IfOk result (λ m. map (λ row. meta_in (Null ∷ row)) rows.now ≡ listed m) }
+    ensures refused { IfErr result (λ _. length rows.now ≤ 1 → ¬ All (IsShownAs meta_form) rows.now) }
 {
     match rows {
         [] => Ok(None),
@@ -41,6 +43,7 @@ fn find_meta<S: Alter>(conn: &mut Connection<S>) -> Result<Option<MetaRow>, Erro
     ensures autocommit { conn.new.in_transaction ≡ false }
     ensures looks { Looks (state S.Store conn.old) (state S.Store conn.new) result
         (λ m. AreStoredAs meta_form (state S.Store conn.old).now.trees × IsMeta (state S.Store conn.old).now.trees m) }
+    ensures cause { FailsByStore (λ trees. AreStoredAs meta_form trees × (length (trees 0) ≤ 1)) (state S.Store conn.old) (state S.Store conn.new) result }
 {
     let rows = select_all_meta(conn)?;
     only_meta(&rows)
@@ -55,6 +58,7 @@ fn take_row<R: StoredRow>(
 ) -> Result<(), Error>
     ensures shown { OnOk result (IsShownAs R.form row.now) }
     ensures kept { OnOk result (IsTrue keep → out.new.items ≡ out.old.items ++ R.form.row_in (Null ∷ row.now) ∷ []) }
+    ensures refused { IfErr result (λ e. e ≢ Error.SqliteFailure ErrorCode.OutOfMemory → ¬ IsShownAs R.form row.now) }
 {
     if !keep {
         return R::test(row);
@@ -72,9 +76,11 @@ pub(crate) fn take_rows<R: StoredRow, S: Alter>(
 ) -> Result<Vec<R>, Error>
     requires autocommit { conn.old.in_transaction ≡ false }
     requires plain { IsPlain (understood our_schema sql.now) }
+    requires sure { IsSure sql.now [] }
     ensures autocommit { conn.new.in_transaction ≡ false }
     ensures looks { Looks (state S.Store conn.old) (state S.Store conn.new) result
         (λ out. IsShownSo (AreTaken R.form keep out.items) sql.now [] (state S.Store conn.old) (state S.Store conn.new)) }
+    ensures cause { ShowsOnly (IsShownAs R.form) sql.now [] (state S.Store conn.old) → FailsByStore (λ _. ⊤) (state S.Store conn.old) (state S.Store conn.new) result }
 {
     let mut out = Vec::new(alloc);
     let mut rows = conn.query(sql, &[])?;
@@ -85,7 +91,8 @@ pub(crate) fn take_rows<R: StoredRow, S: Alter>(
             None => return Ok(out),
         }
     }
-    Err(Error::InvalidQuery)
+    // More rows than any machine holds are out of memory.
+    Err(Error::SqliteFailure(ErrorCode::OutOfMemory))
 }
 
 /// Tests all rows of a table. Those that are kept stand in the order of their keys.
@@ -98,6 +105,7 @@ fn find_rows<R: FoundRow, S: Alter>(
     ensures autocommit { conn.new.in_transaction ≡ false }
     ensures looks { Looks (state S.Store conn.old) (state S.Store conn.new) result
         (λ rows. AreFound R.form R.rows_of keep (state S.Store conn.old).now.trees rows.items) }
+    ensures cause { FailsByStore (AreStoredAs R.form) (state S.Store conn.old) (state S.Store conn.new) result }
 {
     R::keeps_order();
     let mut rows = R::find(conn, alloc, keep)?;
@@ -116,6 +124,7 @@ fn find_two<A: FoundRow, B: FoundRow, S: Alter>(
     ensures looks { Looks (state S.Store conn.old) (state S.Store conn.new) result
         (λ rows. AreFound A.form A.rows_of keep (state S.Store conn.old).now.trees rows.0.items
         × AreFound B.form B.rows_of keep (state S.Store conn.old).now.trees rows.1.items) }
+    ensures cause { FailsByStore (λ trees. AreStoredAs A.form trees × AreStoredAs B.form trees) (state S.Store conn.old) (state S.Store conn.new) result }
 {
     let first = find_rows::<A, S>(conn, alloc, keep)?;
     let second = find_rows::<B, S>(conn, alloc, keep)?;
@@ -123,7 +132,8 @@ fn find_two<A: FoundRow, B: FoundRow, S: Alter>(
 }
 
 fn are_none(rows: &[Row]) -> Result<(), Error>
-    ensures { OnOk result (rows.now ≡ []) }
+    ensures none { OnOk result (rows.now ≡ []) }
+    ensures refused { IfErr result (λ _. rows.now ≢ []) }
 {
     match rows {
         [] => Ok(()),
@@ -136,6 +146,7 @@ fn find_no_writes<S: Alter>(conn: &mut Connection<S>) -> Result<(), Error>
     requires autocommit { conn.old.in_transaction ≡ false }
     ensures autocommit { conn.new.in_transaction ≡ false }
     ensures looks { Looks (state S.Store conn.old) (state S.Store conn.new) result (λ _. (state S.Store conn.old).now.trees 6 ≡ []) }
+    ensures cause { FailsByStore (λ trees. trees 6 ≡ []) (state S.Store conn.old) (state S.Store conn.new) result }
 {
     let rows = select_all_write_log(conn)?;
     are_none(&rows)
@@ -146,6 +157,7 @@ fn find_no_undo<S: Alter>(conn: &mut Connection<S>) -> Result<(), Error>
     requires autocommit { conn.old.in_transaction ≡ false }
     ensures autocommit { conn.new.in_transaction ≡ false }
     ensures looks { Looks (state S.Store conn.old) (state S.Store conn.new) result (λ _. (state S.Store conn.old).now.trees 8 ≡ []) }
+    ensures cause { FailsByStore (λ trees. trees 8 ≡ []) (state S.Store conn.old) (state S.Store conn.new) result }
 {
     let rows = select_all_undo(conn)?;
     are_none(&rows)
@@ -157,6 +169,7 @@ fn find_no_old_logs<S: Alter>(conn: &mut Connection<S>) -> Result<(), Error>
     ensures autocommit { conn.new.in_transaction ≡ false }
     ensures looks { Looks (state S.Store conn.old) (state S.Store conn.new) result
         (λ _. ((state S.Store conn.old).now.trees 6 ≡ []) × ((state S.Store conn.old).now.trees 8 ≡ [])) }
+    ensures cause { FailsByStore (λ trees. (trees 6 ≡ []) × (trees 8 ≡ [])) (state S.Store conn.old) (state S.Store conn.new) result }
 {
     find_no_writes(conn)?;
     find_no_undo(conn)
@@ -172,6 +185,7 @@ pub fn find_all<S: Alter>(
     requires autocommit { conn.old.in_transaction ≡ false }
     ensures autocommit { conn.new.in_transaction ≡ false }
     ensures looks { Looks (state S.Store conn.old) (state S.Store conn.new) result (AreAllFound keep (state S.Store conn.old).now.trees) }
+    ensures cause { FailsByStore (λ trees. AreOurRows trees × (length (trees 0) ≤ 1)) (state S.Store conn.old) (state S.Store conn.new) result }
 {
     let heads = find_two::<RoomName, VectorRow, S>(conn, alloc, keep)?;
     let log = find_rows::<LogRow, S>(conn, alloc, keep)?;

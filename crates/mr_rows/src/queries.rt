@@ -1,4 +1,4 @@
-ghost use Rattle.std.specs.Prelude.{◌≡◌, [], ◌∷◌, false, map, filter};
+ghost use Rattle.std.specs.Prelude.{◌≡◌, [], ◌∷◌, false, map, filter, ⊤};
 ghost use Rattle.std.specs.List.Sorted.{IsPermutation};
 ghost use Rattle.sqlite_value.specs.declared.value.Value.TheVariants.{Null};
 ghost use Rattle.sqlite.specs.Values.{bound};
@@ -14,6 +14,7 @@ ghost use Rattle.mr_rows.specs.RowCells.{meta_in, log_in, booking_row_from, erro
 ghost use Rattle.mr_rows.specs.Database.{tables_in};
 ghost use Rattle.mr_rows.specs.Shown.{columns_from};
 ghost use Rattle.mr_rows.specs.Reads.{ReadsKept, Looks, metas_in};
+ghost use Rattle.mr_rows.specs.Causes.{FailsByStore, IsSure};
 ghost use Rattle.mr_rows.specs.RowQuestions.{is_booking_asked, is_error_asked, is_cancelled_asked, is_cancel_asked};
 
 use crate::numbers::Number;
@@ -45,6 +46,7 @@ pub(crate) fn ask<S: Alter>(
         (λ rows. Shown sql.now (bound params.now) (state S.Store conn.old) (state S.Store conn.new) rows.items) }
     ensures looks { Looks (state S.Store conn.old) (state S.Store conn.new) result
         (λ rows. Shown sql.now (bound params.now) (state S.Store conn.old) (state S.Store conn.new) rows.items) }
+    ensures cause { IsSure sql.now (bound params.now) → FailsByStore (λ _. ⊤) (state S.Store conn.old) (state S.Store conn.new) result }
 {
     conn.query_all(sql, params)
 }
@@ -57,6 +59,7 @@ pub(crate) fn select_all_meta<S: Alter>(conn: &mut Connection<S>) -> Result<Vec<
         (λ rows. IsPermutation (metas_in (state S.Store conn.old).now.trees) (map (λ row. meta_in (Null ∷ row)) rows.items)) }
     ensures looks { Looks (state S.Store conn.old) (state S.Store conn.new) result
         (λ rows. IsPermutation (map (columns_from 1 7) ((state S.Store conn.old).now.trees 0)) rows.items) }
+    ensures cause { FailsByStore (λ _. ⊤) (state S.Store conn.old) (state S.Store conn.new) result }
 {
     ask(
         conn,
@@ -249,6 +252,7 @@ pub(crate) fn select_all_write_log<S: Alter>(conn: &mut Connection<S>) -> Result
     ensures autocommit { conn.new.in_transaction ≡ false }
     ensures looks { Looks (state S.Store conn.old) (state S.Store conn.new) result
         (λ rows. IsPermutation (map (columns_from 1 1) ((state S.Store conn.old).now.trees 6)) rows.items) }
+    ensures cause { FailsByStore (λ _. ⊤) (state S.Store conn.old) (state S.Store conn.new) result }
 {
     ask(conn, "SELECT server FROM write_log", &[])
 }
@@ -259,6 +263,7 @@ pub(crate) fn select_all_undo<S: Alter>(conn: &mut Connection<S>) -> Result<Vec<
     ensures autocommit { conn.new.in_transaction ≡ false }
     ensures looks { Looks (state S.Store conn.old) (state S.Store conn.new) result
         (λ rows. IsPermutation (map (columns_from 1 1) ((state S.Store conn.old).now.trees 8)) rows.items) }
+    ensures cause { FailsByStore (λ _. ⊤) (state S.Store conn.old) (state S.Store conn.new) result }
 {
     ask(conn, "SELECT server FROM undo", &[])
 }

@@ -12,6 +12,7 @@ ghost use Rattle.mr_rows.specs.Form.{Form};
 ghost use Rattle.mr_rows.specs.Shown.{columns_from, IsShownAs, IsStoredAs, AreStoredAs};
 ghost use Rattle.mr_rows.specs.Database.{AreHeld, MakesTables, tables_in};
 ghost use Rattle.mr_rows.specs.Reads.{ReadsKept, Looks};
+ghost use Rattle.mr_rows.specs.Causes.{FailsByStore};
 
 use mr_base::WriteId;
 use sqlite::{Alter, Connection, Error, ErrorCode, Row, Transaction};
@@ -92,7 +93,8 @@ pub(crate) trait FoundRow: StoredRow {
         ensures autocommit { conn.new.in_transaction ≡ false }
         ensures looks { Looks (state S.Store conn.old) (state S.Store conn.new) result
             (λ rows. AreStoredAs Self.form (state S.Store conn.old).now.trees
-            × (IsTrue keep → AreHeld (state S.Store conn.old).now.trees → IsPermutation (Self.rows_of (tables_in (state S.Store conn.old).now.trees)) rows.items)) };
+            × (IsTrue keep → AreHeld (state S.Store conn.old).now.trees → IsPermutation (Self.rows_of (tables_in (state S.Store conn.old).now.trees)) rows.items)) }
+        ensures cause { FailsByStore (AreStoredAs Self.form) (state S.Store conn.old) (state S.Store conn.new) result };
 }
 
 /// A row of a table that has one row for each request.

@@ -1,7 +1,11 @@
-use Rattle.std.proofs.Common.{◌≡◌, true, Some, Ok, refl, rules}
+use Rattle.std.proofs.Common.{◌≡◌, [], true, None, Some, Ok, map, refl, rules, arith}
 use Rattle.sqlite.specs.Held.{state}
 use Rattle.mr_rows.specs.Database.{tables_in}
 use Rattle.mr_rows.specs.Kept.{AreAllFound}
+use Rattle.std.proofs.lemmas.List.{length-map}
+use Rattle.std.proofs.lemmas.List.Sorted.{length_permutation}
+use Rattle.mr_rows.specs.RowCells.{meta_in}
+use Rattle.mr_rows.specs.Reads.{Looks}
 use Rattle.mr_rows.proofs.QueryLemmas.{reads_made}
 use Rattle.mr_rows.proofs.StreamedRows.{kept_looks}
 use Rattle.mr_rows.proofs.all_tables.read_tables.Goals as goal
@@ -22,3 +26,18 @@ pub returns-in-None-clause-reads : goal.returns-in-None-clause-reads
 returns-in-None-clause-reads g c =
     let read = kept_looks (state g.S.Store c.args.conn.now) (state g.S.Store c.find_all.new.conn) c.find_all.result _ c.find_all.ensures.looks in
     (read.0, read.1, λ clean kept. (search rules, search rules))
+
+pub returns-in_err-tables-clause-cause : goal.returns-in_err-tables-clause-cause
+returns-in_err-tables-clause-cause g c = λ clean here rows.
+    let one = rows.1 in
+    let told = c.find_all.ensures.cause clean here (rows.0, omega (arith, one)) in
+    search rules
+
+pub returns-in-None-clause-cause : goal.returns-in-None-clause-cause
+returns-in-None-clause-cause g c = λ clean here rows other.
+    let old = state g.S.Store c.args.conn.now in
+    let looks : Looks old (state g.S.Store c.find_all.new.conn) (Ok None) (AreAllFound true old.now.trees) = rw c.in-None.is at c.in_ok-tables.ensures.looks in
+    let none = length_permutation (map meta_in (old.now.trees 0)) [] (looks.2 clean here).1.1 in
+    let stored = length-map (old.now.trees 0) meta_in in
+    let one = rows.1 in
+    absurd (omega (arith, none, stored, one))

@@ -1,4 +1,4 @@
-use Rattle.std.proofs.Common.{◌≡◌, Bool, List, [], None, Some, Option, Ok, sym, rules}
+use Rattle.std.proofs.Common.{◌≡◌, ◌≤◌, length, Bool, List, [], None, Some, Option, Ok, sym, rules}
 use Rattle.sqlite_trees.specs.Tree.{Trees}
 use Rattle.sqlite.specs.Held.{state}
 use Rattle.mr_model.specs.Texts.{Text}
@@ -8,6 +8,8 @@ use Rattle.mr_rows.specs.Shown.{AreStoredAs, AreOurRows, IsMeta}
 use Rattle.mr_rows.specs.Kept.{AreFound, AreAllFound}
 use Rattle.mr_rows.proofs.FoundLemmas.{meta_is_found}
 use Rattle.mr_rows.proofs.QueryLemmas.{looks_then, looks_made}
+use Rattle.mr_rows.specs.Reads.{IsPlaced}
+use Rattle.mr_rows.proofs.CauseLemmas.{reached, reached_on, fails_on}
 use Rattle.mr_rows.proofs.found.find_all.Goals as goal
 
 abbrev Heads : Bool → Trees → List Text → List VectorRow → Type 0
@@ -197,3 +199,76 @@ returns-in-Some-clause-looks g c =
             cancels = p.0.1.1.1 kept held i;
           },
     )) all
+
+-- ---- why it fails
+
+abbrev Ours : Trees → Type 0
+Ours t = AreOurRows t × (length (t 0) ≤ 1)
+
+pub returns-in_err-heads-clause-cause : goal.returns-in_err-heads-clause-cause
+returns-in_err-heads-clause-cause g c = λ clean here rows. let told = c.find_two.ensures.cause clean here (rows.0.room, rows.0.vector) in search rules
+
+pub returns-in_err-log-clause-cause : goal.returns-in_err-log-clause-cause
+returns-in_err-log-clause-cause g c = λ clean here rows.
+    let a = state g.S.Store c.args.conn.now in
+    let b = state g.S.Store c.find_two.new.conn in
+    let d = state g.S.Store c.find_rows.new.conn in
+    let way_0 = reached a b c.in_ok-heads.ensures.looks in
+    let told = fails_on a b d (λ _. ¬ IsPlaced b) Ours (AreStoredAs log_form) c.find_rows.result way_0 c.find_rows.ensures.looks.0 (λ t r. r.0.log) c.find_rows.ensures.cause clean here rows in
+    search rules
+
+pub returns-in_err-board-clause-cause : goal.returns-in_err-board-clause-cause
+returns-in_err-board-clause-cause g c = λ clean here rows.
+    let a = state g.S.Store c.args.conn.now in
+    let b = state g.S.Store c.find_two.new.conn in
+    let d = state g.S.Store c.find_rows.new.conn in
+    let e = state g.S.Store c.find_two-2.new.conn in
+    let way_0 = reached a b c.in_ok-heads.ensures.looks in
+    let way_1 = reached_on a b d way_0 c.in_ok-log.ensures.looks in
+    let told = fails_on a d e (λ _. ¬ IsPlaced d) Ours (λ t. AreStoredAs booking_form t × AreStoredAs error_form t) c.find_two-2.result way_1 c.find_two-2.ensures.looks.0 (λ t r. (r.0.booking, r.0.errorlog)) c.find_two-2.ensures.cause clean here rows in
+    search rules
+
+pub returns-in_err-cancels-clause-cause : goal.returns-in_err-cancels-clause-cause
+returns-in_err-cancels-clause-cause g c = λ clean here rows.
+    let a = state g.S.Store c.args.conn.now in
+    let b = state g.S.Store c.find_two.new.conn in
+    let d = state g.S.Store c.find_rows.new.conn in
+    let e = state g.S.Store c.find_two-2.new.conn in
+    let f = state g.S.Store c.find_two-3.new.conn in
+    let way_0 = reached a b c.in_ok-heads.ensures.looks in
+    let way_1 = reached_on a b d way_0 c.in_ok-log.ensures.looks in
+    let way_2 = reached_on a d e way_1 c.in_ok-board.ensures.looks in
+    let told = fails_on a e f (λ _. ¬ IsPlaced e) Ours (λ t. AreStoredAs cancelled_form t × AreStoredAs cancel_form t) c.find_two-3.result way_2 c.find_two-3.ensures.looks.0 (λ t r. (r.0.cancelled, r.0.cancels)) c.find_two-3.ensures.cause clean here rows in
+    search rules
+
+pub returns-in_err-find_no_old_logs-clause-cause : goal.returns-in_err-find_no_old_logs-clause-cause
+returns-in_err-find_no_old_logs-clause-cause g c = λ clean here rows.
+    let a = state g.S.Store c.args.conn.now in
+    let b = state g.S.Store c.find_two.new.conn in
+    let d = state g.S.Store c.find_rows.new.conn in
+    let e = state g.S.Store c.find_two-2.new.conn in
+    let f = state g.S.Store c.find_two-3.new.conn in
+    let h = state g.S.Store c.find_no_old_logs.new.conn in
+    let way_0 = reached a b c.in_ok-heads.ensures.looks in
+    let way_1 = reached_on a b d way_0 c.in_ok-log.ensures.looks in
+    let way_2 = reached_on a d e way_1 c.in_ok-board.ensures.looks in
+    let way_3 = reached_on a e f way_2 c.in_ok-cancels.ensures.looks in
+    let told = fails_on a f h (λ _. ¬ IsPlaced f) Ours Old c.find_no_old_logs.result way_3 c.find_no_old_logs.ensures.looks.0 (λ t r. (r.0.no_write_log, r.0.no_undo)) c.find_no_old_logs.ensures.cause clean here rows in
+    search rules
+
+pub returns-in_err-find_meta-clause-cause : goal.returns-in_err-find_meta-clause-cause
+returns-in_err-find_meta-clause-cause g c = λ clean here rows.
+    let a = state g.S.Store c.args.conn.now in
+    let b = state g.S.Store c.find_two.new.conn in
+    let d = state g.S.Store c.find_rows.new.conn in
+    let e = state g.S.Store c.find_two-2.new.conn in
+    let f = state g.S.Store c.find_two-3.new.conn in
+    let h = state g.S.Store c.find_no_old_logs.new.conn in
+    let m = state g.S.Store c.find_meta.new.conn in
+    let way_0 = reached a b c.in_ok-heads.ensures.looks in
+    let way_1 = reached_on a b d way_0 c.in_ok-log.ensures.looks in
+    let way_2 = reached_on a d e way_1 c.in_ok-board.ensures.looks in
+    let way_3 = reached_on a e f way_2 c.in_ok-cancels.ensures.looks in
+    let way_4 = reached_on a f h way_3 c.in_ok-find_no_old_logs.ensures.looks in
+    let told = fails_on a h m (λ _. ¬ IsPlaced h) Ours (λ t. AreStoredAs meta_form t × (length (t 0) ≤ 1)) c.find_meta.result way_4 c.find_meta.ensures.looks.0 (λ t r. (r.0.meta, r.1)) c.find_meta.ensures.cause clean here rows in
+    search rules

@@ -4,6 +4,7 @@ use Rattle.sqlite.specs.Held.{state}
 use Rattle.mr_rows.specs.Shown.{columns_from}
 use Rattle.mr_rows.proofs.QueryLemmas.{looks_made}
 use Rattle.mr_rows.proofs.FoundLemmas.{none_found}
+use Rattle.mr_rows.proofs.CauseLemmas.{made_fails, not_none}
 use Rattle.mr_rows.proofs.found.find_no_undo.Goals as goal
 
 pub returns-in_err-rows-clause-looks : goal.returns-in_err-rows-clause-looks
@@ -15,4 +16,15 @@ returns-clause-looks g c =
     let shown = c.in_ok-rows.rows.items in
     let same : c.deref.result.now ≡ shown = search rules in
     looks_made old (state g.S.Store c.select_all_undo.new.conn) c.in_ok-rows.rows (λ rows. IsPermutation (map (columns_from 1 1) (old.now.trees 8)) rows.items) c.are_none.result (λ _. old.now.trees 8 ≡ [])
-    (λ here read. none_found (columns_from 1 1) (old.now.trees 8) shown c.are_none.result read (rw same at c.are_none.ensures)) c.in_ok-rows.ensures.looks
+    (λ here read. none_found (columns_from 1 1) (old.now.trees 8) shown c.are_none.result read (rw same at c.are_none.ensures.none)) c.in_ok-rows.ensures.looks
+
+pub returns-in_err-rows-clause-cause : goal.returns-in_err-rows-clause-cause
+returns-in_err-rows-clause-cause g c = λ clean here rows. let told = c.select_all_undo.ensures.cause clean here tt in search rules
+
+pub returns-clause-cause : goal.returns-clause-cause
+returns-clause-cause g c =
+    let old = state g.S.Store c.args.conn.now in
+    let shown = c.in_ok-rows.rows.items in
+    let same : c.deref.result.now ≡ shown = search rules in
+    made_fails old (state g.S.Store c.select_all_undo.new.conn) c.in_ok-rows.rows (λ rows. IsPermutation (map (columns_from 1 1) (old.now.trees 8)) rows.items) (λ trees. trees 8 ≡ []) c.are_none.result c.in_ok-rows.ensures.looks
+    (λ none read. not_none (columns_from 1 1) (old.now.trees 8) shown c.are_none.result read (rw same at c.are_none.ensures.refused) none)

@@ -22,3 +22,6 @@ returns-clause-looks g c =
     (Ok c.sort_rows.new.rows) (λ rows. AreFound f rows_of c.args.keep old.now.trees rows.items)
     (λ here found.
     found_rise f rows_of c.args.keep g.R.StoredRow.order old.now.trees c.in_ok-rows.rows.items c.sort_rows.new.rows.items c.keeps_order.ensures.total (c.keeps_order.ensures.rises old.now.trees) found sorted.same sorted.sorted) c.in_ok-rows.ensures.looks
+
+pub returns-in_err-rows-clause-cause : goal.returns-in_err-rows-clause-cause
+returns-in_err-rows-clause-cause g c = λ clean here rows. let told = c.find.ensures.cause clean here rows in search rules

@@ -3,6 +3,8 @@ use Rattle.sqlite.specs.Given.{row_if}
 use Rattle.sqlite.specs.Held.{state}
 use Rattle.mr_rows.specs.Kept.{AreTaken}
 use Rattle.mr_rows.proofs.StreamedRows.{taken_more, begun, refused, advanced, none_left, one_done}
+use Rattle.mr_rows.specs.Shown.{IsShownAs}
+use Rattle.mr_rows.proofs.CauseLemmas.{not_asked, not_advanced, given_is}
 use Rattle.mr_rows.proofs.found.take_rows.Goals as goal
 
 pub returns-in_err-rows-clause-looks : goal.returns-in_err-rows-clause-looks
@@ -67,3 +69,28 @@ rows-preserved g c =
       one_done g.S.Store c.args.sql.now [] c.requires.plain Q Next first new.conn.now row c.in-Some.row.now c.in-Some.ensures
           (λ rows far. taken_more g.R.StoredRow.form c.args.keep c.rows.out.items c.take_row.new.out.items rows c.in-Some.row.now c.in_ok-take_row-in-Some.ensures.shown c.in_ok-take_row-in-Some.ensures.kept far) read,
     )
+
+pub returns-in_err-rows-clause-cause : goal.returns-in_err-rows-clause-cause
+returns-in_err-rows-clause-cause g c = λ shows clean here all.
+    let told = not_asked g.S.Store c.args.sql.now [] c.requires.plain c.requires.sure c.args.conn.now c.query.follows.lender-at-none c.query.result c.query.follows.holds-at-none clean here all in
+    search rules
+
+pub returns-in_err-advance-clause-cause : goal.returns-in_err-advance-clause-cause
+returns-in_err-advance-clause-cause g c = λ shows clean here all.
+    let moved = c.advance.ensures in
+    let new = c.advance.new.self in
+    let told = not_advanced g.S.Store c.args.sql.now [] c.requires.plain c.requires.sure (AreTaken g.R.StoredRow.form c.args.keep c.rows.out.items) (state g.S.Store c.args.conn.now) c.rows.rows.conn.now new.conn.now c.advance.result c.rows.invariant.2 moved.err moved.survives in
+    let here_told = told (search rules) here all in
+    search rules
+
+pub returns-in_err-take_row-in-Some-clause-cause : goal.returns-in_err-take_row-in-Some-clause-cause
+returns-in_err-take_row-in-Some-clause-cause g c = λ shows clean here all.
+    let moved = c.in_ok-advance.ensures in
+    let new = c.advance.new.self in
+    let Q = AreTaken g.R.StoredRow.form c.args.keep c.rows.out.items in
+    let first = state g.S.Store c.args.conn.now in
+    let row = row_if new.has_row new.conn.now in
+    let read = advanced g.S.Store c.args.sql.now [] c.requires.plain Q first c.rows.rows.conn.now new.conn.now (Ok (tt {0})) row c.rows.invariant.2 moved.ok moved.same moved.kept moved.survives in
+    let is = given_is g.S.Store c.args.sql.now [] c.requires.plain c.requires.sure (IsShownAs g.R.StoredRow.form) Q first new.conn.now row c.in-Some.row.now c.in-Some.ensures shows read (search rules) here in
+    let refused = c.in_err-take_row-in-Some.ensures.refused in
+    search rules

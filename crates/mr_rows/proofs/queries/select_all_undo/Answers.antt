@@ -4,6 +4,7 @@ use Rattle.sqlite.specs.Held.{state}
 use Rattle.mr_rows.proofs.StatementMeaning.{undo_text, undo_is}
 use Rattle.mr_rows.proofs.QueryLemmas.{looks_so}
 use Rattle.mr_rows.proofs.SelectLemmas.{sees_undo}
+use Rattle.mr_rows.proofs.SureTexts.{undo_sure}
 use Rattle.mr_rows.proofs.queries.select_all_undo.Goals as goal
 
 pub ask-requires-clause-plain : goal.ask-requires-clause-plain
@@ -14,3 +15,6 @@ returns-clause-looks g c =
     let old = state g.S.Store c.args.conn.now in
     let new = state g.S.Store c.ask.new.conn in
     looks_so old new c.ask.result (λ rows. Shown undo_text ([]) old new rows.items) _ (λ here rows shown. sees_undo old new rows.items here.schema shown) (c.ask.ensures.looks)
+
+pub returns-clause-cause : goal.returns-clause-cause
+returns-clause-cause g c = c.ask.ensures.cause undo_sure

@@ -2,11 +2,15 @@ use Rattle.sqlite.specs.Held.{state}
 use Rattle.mr_rows.specs.Form.{booking_form}
 use Rattle.mr_rows.proofs.StatementMeaning.{all_booking_text, all_booking_is}
 use Rattle.mr_rows.proofs.SelectLemmas.{sees_all_booking, shows_all_booking}
+use Rattle.mr_rows.proofs.SureTexts.{all_booking_sure, only_booking}
 use Rattle.mr_rows.proofs.FoundLemmas.{taken_by}
 use Rattle.mr_rows.proofs.table_rows.BookingRowFoundRow.find.Goals as goal
 
 pub take_rows-requires-clause-plain : goal.take_rows-requires-clause-plain
 take_rows-requires-clause-plain g c = all_booking_is.0.1
+
+pub take_rows-requires-clause-sure : goal.take_rows-requires-clause-sure
+take_rows-requires-clause-sure g c = all_booking_sure
 
 pub returns-clause-looks : goal.returns-clause-looks
 returns-clause-looks g c =
@@ -14,3 +18,6 @@ returns-clause-looks g c =
     let new = state g.S.Store c.take_rows.new.conn in
     taken_by booking_form (λ t. t.booking) c.args.keep all_booking_text old new c.take_rows.result (λ out. out.items) (λ r is. is) (λ rows. sees_all_booking old new rows) (λ rows. shows_all_booking old new rows)
     c.take_rows.ensures.looks
+
+pub returns-clause-cause : goal.returns-clause-cause
+returns-clause-cause g c = λ clean here rows. c.take_rows.ensures.cause (only_booking (state g.S.Store c.args.conn.now) here.schema rows) clean here tt

@@ -1,0 +1,196 @@
+-- Why a query fails, and what reads one after the other makes of it.
+use Rattle.std.proofs.Common.{◌≡◌, ◌≢◌, inl, inr, ℕ, ◌≤◌, List, [], ◌∷◌, ◌++◌, length, append-nil, map, Option, Some, Result, Ok, Err, IfErr, OnErr, IsSome, IsTrue, refl, sym, ap, subst, ◌∙◌, arith}
+use Rattle.std.specs.Prelude.{⊤}
+use Rattle.std.specs.List.{All, AllByRecursion}
+use Rattle.std.specs.List.Sorted.{IsPermutation}
+use Rattle.std.proofs.lemmas.List.{length-map}
+use Rattle.std.proofs.lemmas.List.Elements.{All-from_recursion}
+use Rattle.std.proofs.lemmas.List.Sorted.{IsPermutation-sym, length_permutation}
+use Rattle.sqlite_disk.specs.Disk.{MoreFaults}
+use Rattle.sqlite_value.specs.Order.{Row}
+use Rattle.sqlite_trees.specs.Tree.{Trees}
+use Rattle.sqlite_trees.specs.declared.error.StoreError.{StoreError}
+use Rattle.sqlite_trees.specs.declared.error.StoreError.TheVariants.{OutOfMemory, Io, Corrupt, Full, Broken, Unstorable}
+use Rattle.sqlite_trees.specs.declared.store.Store as store
+use Rattle.sqlite_rules.proofs.ListLemmas.{all_has, all_from}
+use Rattle.sqlite.specs.declared.error.Error.{Error}
+use Rattle.sqlite.specs.declared.error.Error.TheVariants.{SqliteFailure}
+use Rattle.sqlite.specs.declared.error.ErrorCode.TheVariants as code
+use Rattle.sqlite.specs.Effect.{Database}
+use Rattle.sqlite.specs.Given.{IsRefused, FailsToAdvance}
+use Rattle.sqlite.specs.Held.{Held, state}
+use Rattle.sqlite.specs.Listing.{understood, reads_listing, IsSourceOf}
+use Rattle.sqlite.specs.State.{State, HasCleanDisk, HasCause, IsUnchanged, IsNoStatement, IsNotRun, FailsToQuery, Survives, Begins}
+use Rattle.sqlite.proofs.StateLemmas.{survives_then}
+use Rattle.sqlite.proofs.Callers.{IsPlain, given_begin}
+use Rattle.mr_rows.specs.Schema.{our_schema}
+use Rattle.mr_rows.specs.Reads.{IsPlaced, Looks}
+use Rattle.mr_rows.specs.Causes.{IsOfStore, FailsByStore, IsSureUnder, IsSure, ShowsOnly}
+use Rattle.mr_rows.specs.Form.{meta_form}
+use Rattle.mr_rows.specs.Shown.{columns_from, IsShownAs, IsStoredAs, AreStoredAs}
+use Rattle.mr_rows.proofs.FormLemmas.{has_moved}
+use Rattle.mr_rows.proofs.QueryLemmas.{clean_before}
+use Rattle.mr_rows.proofs.StreamedRows.{SoFar, OneOn}
+
+-- a text that is sure is a statement
+never_refused : (sql : List ℕ) (params : Row) (old : State) (e : Error) → old.now.schema ≡ our_schema → IsPlain (understood our_schema sql) → IsSure sql params → ¬ IsNoStatement old sql params e
+never_refused sql params old e schema plain sure (inl (fault, is, same)) = subst IsPlain (sym (ap (λ s. understood s sql) schema) ∙ is) plain
+never_refused sql params old e schema plain sure (inr (c, is, why)) =
+    let known : understood our_schema sql ≡ Ok c = sym (ap (λ s. understood s sql) schema) ∙ is in
+    let it = subst (IsSureUnder our_schema sql params) known sure.1 in
+    let bare = subst IsPlain known plain in
+    elim why [
+      | inl part ↦ part.0 it.0
+      | inr (inl count) ↦ count.0 it.1
+      | inr (inr clock) ↦ clock.0 bare.1
+    ]
+
+-- what makes a sure query fail is the store
+pub sure_fails : (sql : List ℕ) (params : Row) (old new : State) (e : Error) → IsPlaced old → IsPlain (understood our_schema sql) → IsSure sql params → FailsToQuery sql params old new e → IsOfStore old new e
+unfolding FailsToQuery IsNotRun
+sure_fails sql params old new e here plain sure (inl (inl refused)) = absurd (never_refused sql params old e here.schema plain sure refused.0)
+sure_fails sql params old new e here plain sure (inl (inr fails)) = inl (fails.0, fails.1, fails.2)
+sure_fails sql params old new e here plain sure (inr (c, it, shows)) =
+    let known : understood our_schema sql ≡ Ok c = sym (ap (λ s. understood s sql) here.schema) ∙ it.is in
+    let bare = subst IsPlain known plain in
+    let refuses = rw (bare.0, bare.1, append-nil params) at shows in
+    let db : refuses.0 ≡ old.now = subst (λ b. IsSourceOf b old.now refuses.0) (ap (λ s. reads_listing s sql) here.schema ∙ sure.0) refuses.1 in
+    let told = subst (IsSureUnder our_schema sql params) known sure.1 in
+    inr (told.2 old.step_limit refuses.0 e (ap (λ (d : Database). d.schema) db ∙ here.schema) refuses.2)
+
+more_faults : (a b c : ℕ) → a ≤ b → MoreFaults b c → MoreFaults a c
+more_faults a b c less more = omega (arith, less, more)
+
+-- the cause of a failure after other reads is one since the first of them
+pub since_first : (a b c : State) (P : Trees → Type 0) (e : Error) → Survives a b P → IsTrue b.is_open → IsOfStore b c e → IsOfStore a c e
+since_first a b c P e s now (inr stopped) = inr (stopped.0, subst IsSome s.limit stopped.1)
+since_first a b c P e s now (inl (cause, is, had)) = inl (cause, is, caused cause had)
+  where
+    caused : (k : StoreError) → HasCause b c ⊥ k → HasCause a c ⊥ k
+    caused OutOfMemory had = tt
+    caused Io had = more_faults a.faults b.faults c.faults s.counts had
+    caused Corrupt had = more_faults a.faults b.faults c.faults s.counts had
+    caused Full had = more_faults a.faults b.faults c.faults s.counts had
+    caused Broken shut = absurd (let never = rw shut at now in cc)
+    caused Unstorable none = none
+
+still_placed : (a b : State) → IsPlaced a → IsUnchanged a b → IsPlaced b
+still_placed a b here same = record { schema = ap (λ (d : Database). d.schema) same.0.now_is ∙ here.schema; settled = same.0.now_is ∙ here.settled ∙ sym same.0.committed_is }
+
+-- what begins an answer of an unchanged database began it before
+begins_before : (sql : List ℕ) (params : Row) (a b : State) (rows : List Row) → b.now ≡ a.now → Begins sql params b rows → Begins sql params a rows
+unfolding Begins
+begins_before sql params a b rows same h = (
+  h.0,
+  record { is = subst (λ (d : Database). understood d.schema sql ≡ Ok h.0) same h.1.is; whole = h.1.whole; given = h.1.given; now = h.1.now },
+  h.2,
+  h.3,
+  subst (λ (d : Database). IsSourceOf (reads_listing d.schema sql) d h.3) same h.4,
+  h.5,
+)
+
+last_has : (P : Row → Type 0) (rows : List Row) (row : Row) → AllByRecursion P (rows ++ row ∷ []) → P row
+last_has P [] row all = all.0
+last_has P (r ∷ rows) row all = last_has P rows row all.1
+
+module _ {S : Type 0} (g : store.Ghosts S) (sql : List ℕ) (params : Row) (plain : IsPlain (understood our_schema sql)) (sure : IsSure sql params) where
+  pub not_asked : {X : Type 0} (old new : Held S) (r : Result X Error) → OnErr r (IsRefused g sql params old r new) → FailsByStore (λ _. ⊤) (state g old) (state g new) r
+  not_asked old new (Ok x) held = λ clean here all. tt
+  not_asked old new (Err e) held = λ clean here all other. sure_fails sql params (state g old) (state g new) e here plain sure (held.err clean)
+
+  pub not_advanced : (Q : List Row → Type 0) (first : State) (old new : Held S) (r : Result (Unit {0}) Error) → Looks {X = Unit {0}} first (state g old) (Ok tt) (λ _. SoFar g sql params Q first old)
+      → (HasCleanDisk (state g new) → IfErr r (FailsToAdvance g old new)) → Survives (state g old) (state g new) (λ _. ⊥) → FailsByStore (λ _. ⊤) first (state g new) r
+  not_advanced Q first old new (Ok x) far err survives = λ clean here all. tt
+  not_advanced Q first old new (Err e) far err survives = λ clean here all other.
+      let before = far.2 (clean_before survives clean) here in
+      let so_far = before.1 in
+      since_first first (state g old) (state g new) _ e far.0 before.0
+      (sure_fails sql params (state g old) (state g new) e (still_placed first (state g old) here so_far.0) plain sure (err clean sql params so_far.1 so_far.2))
+
+  -- a row that was given is one of those that the text shows
+  pub given_is : (P : Row → Type 0) (Q : List Row → Type 0) (first : State) (now : Held S) (row : Option Row) (x : Row) → Some x ≡ row → ShowsOnly P sql params first
+      → Looks {X = Unit {0}} first (state g now) (Ok tt) (λ _. OneOn g sql params Q first now row) → HasCleanDisk (state g now) → IsPlaced first → P x
+  given_is P Q first now row x is shows far clean here =
+      let one = subst (OneOn g sql params Q first now) (sym is) (far.2 clean here).1 in
+      last_has P one.1 x (shows (one.1 ++ x ∷ []) (begins_before sql params first (state g now) (one.1 ++ x ∷ []) one.0.0.now_is (given_begin g sql params now (one.1 ++ x ∷ []) one.2)))
+
+pub asked_fails : {X : Type 0} (sql : List ℕ) (params : Row) (old new : State) (r : Result X Error) → IsPlain (understood our_schema sql) → (HasCleanDisk new → IfErr r (FailsToQuery sql params old new)) → IsSure sql params
+    → FailsByStore (λ _. ⊤) old new r
+asked_fails sql params old new (Ok x) plain err sure = λ clean here all. tt
+asked_fails sql params old new (Err e) plain err sure = λ clean here all other. sure_fails sql params old new e here plain sure (err clean)
+
+-- ---- one call after the other
+
+-- looks led from the one state to the other
+abbrev pub Reaches : State → State → Type 0
+Reaches a b = Survives a b (λ _. ¬ IsPlaced a) × (HasCleanDisk b → IsPlaced a → IsTrue b.is_open × (b.now ≡ a.now) × (b.committed ≡ a.committed))
+
+-- what a look leaves, whatever it tells
+abbrev pub Looked : Type 0 → State → State → Type 0
+Looked X a b =
+    Survives a b (λ _. ¬ IsPlaced a) × (HasCleanDisk b → IsTrue b.is_open → IsTrue a.is_open × (IsPlaced a → (b.now ≡ a.now) × (b.committed ≡ a.committed)))
+    × (HasCleanDisk b → IsPlaced a → IsTrue b.is_open × X)
+
+pub reached : {X : Type 0} (a b : State) → Looked X a b → Reaches a b
+reached a b look = (look.0, λ clean here. let now = (look.2 clean here).0 in let same = (look.1 clean now).1 here in (now, same.0, same.1))
+
+placed_after : (a b : State) → IsPlaced a → b.now ≡ a.now → b.committed ≡ a.committed → IsPlaced b
+placed_after a b here now committed = record { schema = ap (λ (d : Database). d.schema) now ∙ here.schema; settled = now ∙ here.settled ∙ sym committed }
+
+pub reached_on : {X : Type 0} (a b c : State) → Reaches a b → Looked X b c → Reaches a c
+reached_on a b c way look =
+    let between = λ (clean : HasCleanDisk c) (here : IsPlaced a). way.1 (clean_before look.0 clean) here in (
+      survives_then a b c (λ _. ¬ IsPlaced a) (λ _. ¬ IsPlaced b) (λ _. ¬ IsPlaced a) (λ _ db none. none)
+          (λ clean db none here. let it = between clean here in none (placed_after a b here it.1 it.2)) way.0 look.0,
+      λ clean here.
+          let it = between clean here in
+          let placed = placed_after a b here it.1 it.2 in
+          let now = (look.2 clean placed).0 in
+          let same = (look.1 clean now).1 placed in
+          (now, same.0 ∙ it.1, same.1 ∙ it.2),
+    )
+
+told_since : {Y : Type 0} (a b c : State) (P : Trees → Type 0) (r : Result Y Error) → Survives a b P → IsTrue b.is_open → IfErr r (λ e. e ≢ SqliteFailure code.OutOfMemory → IsOfStore b c e)
+    → IfErr r (λ e. e ≢ SqliteFailure code.OutOfMemory → IsOfStore a c e)
+told_since a b c P (Ok y) survives now h = tt
+told_since a b c P (Err e) survives now h = λ other. since_first a b c P e survives now (h other)
+
+pub fails_on : {Y : Type 0} (a b c : State) (After First Rows : Trees → Type 0) (r : Result Y Error) → Reaches a b → Survives b c After → ((t : Trees) → First t → Rows t) → FailsByStore Rows b c r → FailsByStore First a c r
+fails_on a b c After First Rows r way survives given fails = λ clean here rows.
+    let it = way.1 (clean_before survives clean) here in
+    told_since a b c _ r way.0 it.0 (fails clean (placed_after a b here it.1 it.2) (subst Rows (sym (ap (λ (d : Database). d.trees) it.1)) (given a.now.trees rows)))
+
+-- what is made of an answer refuses no rows like these
+pub made_fails : {X Y : Type 0} (a b : State) (x : X) (P : X → Type 0) (Rows : Trees → Type 0) (r : Result Y Error) → Looks a b (Ok x) P
+    → (Rows a.now.trees → P x → IfErr r (λ e. e ≢ SqliteFailure code.OutOfMemory → ⊥)) → FailsByStore Rows a b r
+made_fails a b x P Rows (Ok y) look never = λ clean here rows. tt
+made_fails a b x P Rows (Err e) look never = λ clean here rows other. absurd (never rows (look.2 clean here).1 other)
+
+-- ---- what is made of rows
+
+pub none_shown : (show : Row → Row) (stored shown : List Row) → IsPermutation (map show stored) shown → stored ≡ [] → shown ≡ []
+none_shown show stored [] same none = refl
+none_shown show stored (r ∷ shown) same none = absurd (has_moved _ [] (IsPermutation-sym _ _ (subst (λ xs. IsPermutation (map show xs) (r ∷ shown)) none same)) r (inl refl))
+
+pub not_none : {X : Type 0} (show : Row → Row) (stored shown : List Row) (r : Result X Error) → IsPermutation (map show stored) shown → IfErr r (λ _. shown ≢ []) → stored ≡ [] → IfErr r (λ e. e ≢ SqliteFailure code.OutOfMemory → ⊥)
+not_none show stored shown (Ok x) same refused none = tt
+not_none show stored shown (Err e) same refused none = λ other. refused (none_shown show stored shown same none)
+
+pub all_mapped : (P Q : Row → Type 0) (show : Row → Row) (rows : List Row) → ((r : Row) → Q r → P (show r)) → AllByRecursion Q rows → AllByRecursion P (map show rows)
+all_mapped P Q show [] way all = tt
+all_mapped P Q show (r ∷ rows) way all = (way r all.0, all_mapped P Q show rows way all.1)
+
+-- rows that are shown of stored ones which are the table's own
+pub all_shown : (P Q : Row → Type 0) (show : Row → Row) (stored shown : List Row) → ((r : Row) → Q r → P (show r)) → IsPermutation (map show stored) shown → AllByRecursion Q stored → All P shown
+all_shown P Q show stored shown way same all =
+    let mapped = all_mapped P Q show stored way all in
+    All-from_recursion P shown (all_from P shown (λ r here. all_has P (map show stored) r mapped (has_moved shown (map show stored) (IsPermutation-sym _ _ same) r here)))
+
+pub not_meta : {X : Type 0} (trees : Trees) (shown : List Row) (r : Result X Error) → IsPermutation (map (columns_from 1 7) (trees 0)) shown → IfErr r (λ _. length shown ≤ 1 → ¬ All (IsShownAs meta_form) shown)
+    → AreStoredAs meta_form trees × (length (trees 0) ≤ 1) → IfErr r (λ e. e ≢ SqliteFailure code.OutOfMemory → ⊥)
+not_meta trees shown (Ok x) same refused rows = tt
+not_meta trees shown (Err e) same refused rows = λ other.
+    let many = length_permutation (map (columns_from 1 7) (trees 0)) shown same in
+    let stored = length-map (trees 0) (columns_from 1 7) in
+    let few = rows.1 in
+    refused (omega (arith, many, stored, few)) (all_shown (IsShownAs meta_form) (IsStoredAs meta_form) (columns_from 1 7) (trees 0) shown (λ r is. is) same rows.0)
