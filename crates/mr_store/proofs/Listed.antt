@@ -5,7 +5,7 @@ use Rattle.std.specs.BTreeMap.Range.{range_contains}
 use Rattle.std.specs.BTreeSet.{BTreeSet, IsOrdered, keys_between}
 use Rattle.std.specs.Cmp.Lexicographic.{slice_cmp}
 use Rattle.std.specs.List.{cons_option, filter, filter_map, find}
-use Rattle.std.specs.List.Sorted.{IsPermutation, IsSortedByKey, IsStrictlySortedBy}
+use Rattle.std.specs.List.Sorted.{IsStrictlySortedBy}
 use Rattle.std.specs.Ordering.{is_lt, is_le, is_gt, is_eq, nat_cmp, ordering_then, ordering_reverse}
 use Rattle.std.specs.declared.cmp.Ordering.{Ordering}
 use Rattle.std.specs.declared.cmp.Ordering.TheVariants.{Less, Equal, Greater}
@@ -13,7 +13,6 @@ use Rattle.std.specs.declared.ops.Bound.TheVariants.{Included}
 use Rattle.std.specs.Str.{bytes_eq}
 use Rattle.std.proofs.lemmas.Bool.{true≢false, and_parts, and_from, false_from_ne_true}
 use Rattle.std.proofs.lemmas.Cmp.{tied_itself, nat_cmp_total, nat_list_cmp_total}
-use Rattle.std.proofs.lemmas.List.Sorted.{IsPermutation-trans}
 use Rattle.std.proofs.lemmas.Map.Lookups.{CmpEqualImpliesEq, exact_pairs, exact_unsigned, exact_bytes}
 use Rattle.mr_model.specs.Calendar.{Date}
 use Rattle.mr_model.specs.Dropped.{Has}
@@ -27,9 +26,8 @@ use Rattle.mr_model.proofs.SlotTests.{same_date-true}
 use Rattle.mr_model.proofs.UniqueReplay.{some_inj, none_some}
 use Rattle.mr_base.specs.Ids.{id_cmp}
 use Rattle.mr_replay.specs.Index.{padded}
-use Rattle.mr_replay.proofs.IdKeys.{exact_ids, ids_total, is_eq-Equal}
+use Rattle.mr_replay.proofs.IdKeys.{exact_ids, is_eq-Equal}
 use Rattle.mr_replay.proofs.Lists.{one_name}
-use Rattle.mr_part.proofs.Sorting.{Rises, sorted_is}
 use Rattle.mr_tables.specs.Change.{id_before, put, rows_without}
 use Rattle.mr_tables.proofs.Putting.{InOrder, id_order, put_has, put_in_order}
 use Rattle.mr_store.specs.declared.calendar.CalendarKey.{CalendarKey}
@@ -37,7 +35,7 @@ use Rattle.mr_store.specs.Calendar.{key_cmp, key_of, end_key, has, is_asked, row
 use Rattle.mr_store.specs.Keyed.{if_passes}
 use Rattle.mr_store.specs.Picked.{is_day_asked, booking_before}
 use Rattle.mr_store.proofs.CalendarOrder.{booking_total, booking_cmp-before}
-use Rattle.mr_store.proofs.RowsById.{less_before, one_row}
+use Rattle.mr_store.proofs.RowsById.{one_row}
 use Rattle.mr_store.proofs.SameMembers.{apart_from, permuted, sorted_by}
 
 -- ---- keys that compare alike are one
@@ -249,30 +247,3 @@ module _ (room : Text) (day : Option Date) (rows : List BookingRow) where
 
       back : (r : BookingRow) → Has r picked → Has r (filter (is_asked room day) rows)
       back r h = let p = own r h in has_filter (is_asked room day) r rows p.1 p.0
-
--- ---- the order of ids again
-
-rises : (rows : List BookingRow) → InOrder id_before booking_id rows → Rises id_cmp booking_id rows
-rises [] s = tt
-rises (r ∷ rows) s =
-    (has_all (λ y. id_cmp (booking_id r) (booking_id y) ≡ Less) rows (λ y h. less_before (booking_id r) (booking_id y) (all_has (λ y. id_before (booking_id r) (booking_id y) ≡ true) y rows s.0 h)), rises rows s.1)
-
--- the bookings of a room that are listed, sorted by their ids, are those of the table
-pub in_order_again : (room : Text) (rows picked sorted : List BookingRow) → InOrder id_before booking_id rows → IsPermutation (filter (is_asked room None) rows) picked → IsPermutation picked sorted → IsSortedByKey booking_id id_cmp sorted → sorted ≡ filter (λ r. bytes_eq r.room room) rows
-in_order_again room rows picked sorted order p q up =
-    sorted_is id_cmp ids_total booking_id (λ a b. id_cmp (booking_id a) (booking_id b) ≡ Less)
-    (λ x e. true≢false (sym (ap is_eq (tied_itself ids_total (booking_id x))) ∙ ap is_eq e))
-    all sorted all rise (IsPermutation-trans all picked sorted (subst (λ rs. IsPermutation rs picked) (all_days rows) p) q) up rise (λ x h. h) (λ x h. h)
-  where
-    all : List BookingRow
-    all = filter (λ r. bytes_eq r.room room) rows
-
-    rise : Rises id_cmp booking_id all
-    rise = rises all (sorted_filter (λ a b. id_before (booking_id a) (booking_id b) ≡ true) (λ r. bytes_eq r.room room) rows order)
-
-    and_true : (b : Bool) → (b && true) ≡ b
-    and_true true = refl
-    and_true false = refl
-
-    all_days : (rs : List BookingRow) → filter (is_asked room None) rs ≡ filter (λ r. bytes_eq r.room room) rs
-    all_days rs = (λ t. filter (λ r. and_true (bytes_eq r.room room) t) rs)

@@ -7,7 +7,7 @@ use Rattle.std.specs.Option.{is_some, option_to_list}
 use Rattle.std.specs.Ordering.{is_lt, match_ordering, ordering_then, ordering_reverse, nat_cmp}
 use Rattle.std.specs.declared.cmp.Ordering.{Ordering}
 use Rattle.std.specs.declared.cmp.Ordering.TheVariants.{Less, Equal, Greater}
-use Rattle.std.proofs.lemmas.Bool.{true≢false, false_from_ne_true}
+use Rattle.std.proofs.lemmas.Bool.{false_from_ne_true}
 use Rattle.std.proofs.lemmas.List.{append_assoc}
 use Rattle.mr_model.specs.Dropped.{Has}
 use Rattle.mr_model.specs.Replica.{is_among}
@@ -42,15 +42,6 @@ before_is i j =
 
 before_less : (i j : Id) → id_cmp i j ≡ Less → id_before i j ≡ true
 before_less i j p = sym (before_is i j) ∙ ap is_lt p
-
--- what is before stands so in the order of ids
-pub less_before : (i j : Id) → id_before i j ≡ true → id_cmp i j ≡ Less
-less_before i j e = go (id_cmp i j) (before_is i j ∙ e)
-  where
-    go : (o : Ordering) → is_lt o ≡ true → o ≡ Less
-    go Less is = refl
-    go Equal is = absurd (true≢false (sym is))
-    go Greater is = absurd (true≢false (sym is))
 
 not_before : (i j : Id) → is_lt (id_cmp i j) ≡ false → id_before i j ≡ false
 not_before i j p = sym (before_is i j) ∙ p

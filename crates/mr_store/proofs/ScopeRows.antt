@@ -2,8 +2,7 @@
 use Rattle.std.proofs.Common.{◌≡◌, ℕ, Bool, true, false, cond, List, [], ◌∷◌, map, take, Option, Some, IfSome, refl, sym, ap, subst, ◌∙◌}
 use Rattle.std.proofs.lemmas.Bool.{true≢false}
 use Rattle.std.specs.List.{filter}
-use Rattle.std.specs.Str.{bytes_eq}
-use Rattle.mr_model.specs.Texts.{Text, within}
+use Rattle.mr_model.specs.Texts.{within}
 use Rattle.mr_model.specs.Scopes.{Scope, Nothing, InRoom, OfTarget, NextCommits, UpTo, Above, OfItems, is_tentative, is_above, by_stamp, in_scope, with_rows}
 use Rattle.mr_model.specs.Tables.{LogRow, BookingRow, ErrorRow, CancelledRow, Tables}
 use Rattle.mr_model.specs.Queries.{booking_id, error_id, cancelled_id, log_id}
@@ -23,10 +22,6 @@ twice {R} p (x ∷ xs) = go (p x) refl (twice p xs)
 
 again : {R : Type 0} (p : R → Bool) (rows picked : List R) → picked ≡ filter p rows → filter p picked ≡ filter p rows
 again p rows picked is = ap (filter p) is ∙ twice p rows
-
-pub room_scope : (t : Tables) (room : Text) (booking : List BookingRow) (cancelled : List CancelledRow) → booking ≡ filter (λ r. bytes_eq r.room room) t.booking → cancelled ≡ filter (λ r. bytes_eq r.room room) t.cancelled → in_scope (InRoom room) (with_rows t [] booking [] cancelled) ≡ in_scope (InRoom room) t
-room_scope t room booking cancelled b c =
-    (λ i. with_rows t [] (again (λ (x : BookingRow). bytes_eq x.room room) t.booking booking b i) [] (again (λ (x : CancelledRow). bytes_eq x.room room) t.cancelled cancelled c i))
 
 pub target_scope : (t : Tables) (target : Id) (booking : List BookingRow) (errorlog : List ErrorRow) (cancelled : List CancelledRow) → booking ≡ filter (λ r. same_id (booking_id r) target) t.booking → errorlog ≡ filter (λ r. same_id (error_id r) target) t.errorlog → cancelled ≡ filter (λ r. same_id (cancelled_id r) target) t.cancelled → in_scope (OfTarget target) (with_rows t [] booking errorlog cancelled) ≡ in_scope (OfTarget target) t
 target_scope t target booking errorlog cancelled b e c =

@@ -1,7 +1,6 @@
-ghost use Rattle.std.specs.Prelude.{◌≡◌, ◌∷◌, [], bytes_eq, filter, IfOk};
+ghost use Rattle.std.specs.Prelude.{◌≡◌, ◌∷◌, [], IfOk};
 ghost use Rattle.std.specs.Option.{option_copied};
 ghost use Rattle.mr_model.specs.Queries.{booking_id};
-ghost use Rattle.mr_base.specs.Ids.{id_cmp};
 ghost use Rattle.mr_tables.specs.Change.{id_before, put, put_all, rows_without};
 ghost use Rattle.mr_tables.proofs.Putting.{InOrder};
 ghost use Rattle.mr_store.specs.Calendar.{is_asked_at, row_at, AreListed};
@@ -14,7 +13,6 @@ use mr_base::{Day, RoomName, WriteId};
 use mr_lists::rows::TableRow;
 use mr_tables::BookingRow;
 use std::alloc::{AllocError, Global};
-use std::cmp::Ordering;
 use std::marker::Model;
 
 /// Bookings by their ids, and by room, day and start.
@@ -128,33 +126,12 @@ impl Bookings {
         Ok(rows)
     }
 
-    /// Copies of the bookings of a room, in the order of their ids.
-    pub(crate) fn in_room(
-        &self,
-        alloc: Global,
-        room: &RoomName,
-    ) -> Result<Vec<BookingRow>, AllocError>
-        ensures { IfOk result (λ rows. rows.items ≡ filter (λ r. bytes_eq r.room room.now) self.now) }
-    {
-        // For the prover alone: the rows are in the order of their ids.
-        let _ = &self.rows;
-        let mut rows = self.listed(alloc, room, &None)?;
-        rows.sort_by(|a, b| compare(a, b))?;
-        Ok(rows)
-    }
-
     /// The booking of this key, if it is of the room and the day.
     fn row_at(&self, key: &CalendarKey, room: &RoomName, day: &Option<Day>) -> Option<&BookingRow>
         ensures { option_copied result ≡ row_at room.now day.now self.now key.now }
     {
         if_asked(self.rows.get(key.id), key, room, day)
     }
-}
-
-fn compare(a: &BookingRow, b: &BookingRow) -> Ordering
-    ensures { result ≡ id_cmp (booking_id a.now) (booking_id b.now) }
-{
-    a.id().cmp(&b.id())
 }
 
 /// The booking, if it is of the room and the day, and has this key.

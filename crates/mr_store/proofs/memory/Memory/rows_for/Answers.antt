@@ -1,11 +1,11 @@
-use Rattle.std.proofs.Common.{◌≡◌, [], Result, refl, sym, ap, subst, ◌∙◌}
+use Rattle.std.proofs.Common.{◌≡◌, [], Result, sym, ap, subst, ◌∙◌}
 use Rattle.std.specs.Prelude.{filter, IfOk}
 use Rattle.std.proofs.lemmas.Result.{IfOk-weaker}
 use Rattle.mr_model.specs.Scopes.{in_scope, with_rows}
 use Rattle.mr_model.specs.Tables.{Tables}
 use Rattle.mr_part.specs.ScopeOf.{scope_of}
 use Rattle.mr_part.specs.declared.scope.Scope.{Scope}
-use Rattle.mr_part.specs.declared.scope.Scope.TheVariants.{NextCommits, UpTo, Above, Items}
+use Rattle.mr_part.specs.declared.scope.Scope.TheVariants.{NextCommits, UpTo, Above}
 use Rattle.mr_store.specs.Needed.{is_log_needed}
 use Rattle.mr_store.proofs.ScopeRows.{commits_scope, up_to_scope, above_scope}
 use Rattle.mr_store.proofs.memory.Memory.rows_for.Goals as goal
@@ -33,8 +33,3 @@ returns-in-Above c =
     let t = c.args.self.now in
     let n = c.in-Above.field-0 in
     told c.args.scope.now (Above n) t c.rows_of_log-in-Above.result (λ s. with_rows t (filter (is_log_needed (scope_of s)) t.log) [] [] []) c.in-Above.is (above_scope t n) c.rows_of_log-in-Above.ensures
-
-pub returns-in-Items : goal.returns-in-Items
-returns-in-Items c =
-    let t = c.args.self.now in
-    told c.args.scope.now (Items c.in-Items.field-0) t c.rows_to_move.result (λ s. with_rows t t.log t.booking [] t.cancelled) c.in-Items.is refl c.rows_to_move.ensures
