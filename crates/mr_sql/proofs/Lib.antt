@@ -8,6 +8,7 @@ pub mod NextIdLemmas
 pub mod OpeningLemmas
 pub mod TakenLemmas
 pub mod CrashLemmas
+pub mod FreshLemmas
 pub mod NumberLemmas
 pub mod FirstTaken
 pub mod FileLemmas

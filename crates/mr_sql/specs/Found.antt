@@ -1,12 +1,12 @@
 -- What is found in a database that its keeper didn't make.
-use Rattle.std.specs.Prelude.{◌≡◌, ℕ, ◌⊎◌, IsTrue}
+use Rattle.std.specs.Prelude.{◌≡◌, ℕ, ◌⊎◌, Option, Some, None, IsTrue}
 use Rattle.sqlite_trees.specs.Tree.{Trees}
 use Rattle.sqlite_schema.specs.declared.schema.Schema.{Schema}
 use Rattle.sqlite_catalog.specs.Listing.{IsSound}
 use Rattle.sqlite.specs.Effect.{IsDatabase}
 use Rattle.sqlite.specs.State.{State}
 use Rattle.mr_model.specs.Replica.{Replica, opening}
-use Rattle.mr_model.specs.Tables.{MetaRow, Stands}
+use Rattle.mr_model.specs.Tables.{MetaRow, Tables, Stands}
 use Rattle.mr_model.specs.First.{StandsFirst, moved}
 use Rattle.mr_store.specs.KeeperCalls.{IsSettled}
 use Rattle.mr_rows.specs.Schema.{no_schema, first_schema, our_schema}
@@ -68,3 +68,8 @@ LeavesTables s = IsSettled (λ t. (trees : Trees) × s.may_leave trees × (t ≡
 -- a crash would leave the rows that are there, and nothing else
 abbrev pub LeavesRows : State → Type 0
 LeavesRows s = (trees : Trees) → s.may_leave trees → trees ≡ s.now.trees
+
+-- the rows that a keeper read when it opened its database, where it still has them, are those that are there
+abbrev pub AreFresh : Option Tables → State → Type 0
+AreFresh None s = Unit {0}
+AreFresh (Some rows) s = rows ≡ tables_in s.now.trees

@@ -1,12 +1,12 @@
-ghost use Rattle.std.specs.Prelude.{◌≡◌, ◌⊎◌, false, None, IfOk, IfErr, OnOk, OnErr, IsTrue};
+ghost use Rattle.std.specs.Prelude.{◌≡◌, ◌⊎◌, false, None, IfOk, IfErr, IfSome, OnOk, OnErr, IsTrue};
 ghost use Rattle.sqlite_trees.specs.Tree.{Trees};
 ghost use Rattle.sqlite_trees.specs.View.{IsClean};
 ghost use Rattle.sqlite_catalog.specs.Listing.{IsSound};
 ghost use Rattle.sqlite.specs.State.{HasCleanDisk, Survives};
 ghost use Rattle.sqlite.specs.Held.{state};
 ghost use Rattle.mr_rows.specs.Schema.{no_schema, our_schema};
-ghost use Rattle.mr_rows.specs.Database.{IsKept};
-ghost use Rattle.mr_sql.specs.Found.{IsTaken, IsTakenAs, IsFound, IsAdopted, IsResumed, Names, StaysAs};
+ghost use Rattle.mr_rows.specs.Database.{IsKept, tables_in};
+ghost use Rattle.mr_sql.specs.Found.{AreFresh, IsTaken, IsTakenAs, IsFound, IsAdopted, IsResumed, Names, StaysAs};
 ghost use Rattle.mr_rows.specs.Shown.{IsMeta};
 ghost use Rattle.mr_sql.specs.Refused.{AreSomebodys, HasNoMeta, IsAnothers, IsNobodys};
 
@@ -17,7 +17,7 @@ use crate::schema_number::check_number;
 use crate::schemas::{is_blank, is_ours};
 use mr_base::{Refusal, ServerId};
 use mr_rows::found::find_all;
-use mr_tables::MetaRow;
+use mr_tables::{MetaRow, Tables};
 use sqlite::{Alter, Connection, Error, ErrorCode};
 use std::alloc::Global;
 
@@ -71,13 +71,20 @@ fn begin<S: Alter>(
     }
 }
 
-// Finds the row of `meta` in a database with our tables. It is refused if there is none.
-fn find_row<S: Alter>(conn: &mut Connection<S>, alloc: Global) -> Result<MetaRow, Refusal>
+// Finds the tables of a database with our schema, all of whose rows are tested, with their rows if these are to be kept. They are refused if there is
+// no row of `meta`.
+fn find_row<S: Alter>(
+    conn: &mut Connection<S>,
+    alloc: Global,
+    keep: bool,
+) -> Result<Tables, Refusal>
     requires autocommit { conn.old.in_transaction ≡ false }
     ensures autocommit { conn.new.in_transaction ≡ false }
     ensures clean { HasCleanDisk (state S.Store conn.new) → HasCleanDisk (state S.Store conn.old) }
     ensures found { (trees : Trees) → HasCleanDisk (state S.Store conn.new) → IsTakenAs our_schema trees (state S.Store conn.old)
-        → IfOk result (λ m. IsTrue (state S.Store conn.new).is_open → IsFound trees m (state S.Store conn.new)) }
+        → IfOk result (λ tables. IsTrue (state S.Store conn.new).is_open → IsFound trees tables.meta (state S.Store conn.new)) }
+    ensures kept { (trees : Trees) → HasCleanDisk (state S.Store conn.new) → IsTakenAs our_schema trees (state S.Store conn.old)
+        → IfOk result (λ tables. IsTrue keep → IsTrue (state S.Store conn.new).is_open → tables ≡ tables_in (state S.Store conn.new).now.trees) }
     ensures opens { (trees : Trees) → HasCleanDisk (state S.Store conn.new) → IsTakenAs our_schema trees (state S.Store conn.old)
         → OnOk result (IsTrue (state S.Store conn.new).is_open) }
     ensures stays { (trees : Trees) → HasCleanDisk (state S.Store conn.new) → IsTakenAs our_schema trees (state S.Store conn.old)
@@ -88,20 +95,23 @@ fn find_row<S: Alter>(conn: &mut Connection<S>, alloc: Global) -> Result<MetaRow
         (λ _. (trees : Trees) → IsTakenAs our_schema trees (state S.Store conn.old) → ⊥) }
     ensures cause { IfErr result (λ e. (e ≡ Refusal.OutOfMemory) ⊎ ((e ≡ Refusal.Store) ⊎ (e ≡ Refusal.NotAReplica))) }
 {
-    match find_all(conn, alloc, false) {
-        Ok(Some(tables)) => Ok(tables.meta),
+    match find_all(conn, alloc, keep) {
+        Ok(Some(tables)) => Ok(tables),
         Ok(None) => Err(Refusal::NotAReplica),
         Err(error) => Err(refusal_of(error)),
     }
 }
 
-/// Finds the row of `meta` in a database with our tables. It is refused if there is none, or one of another schema.
-fn find<S: Alter>(conn: &mut Connection<S>, alloc: Global) -> Result<MetaRow, Refusal>
+/// Finds the tables of a database with our schema, with their rows if these are to be kept. They are refused if there is no row of `meta`, or one of
+/// another schema.
+fn find<S: Alter>(conn: &mut Connection<S>, alloc: Global, keep: bool) -> Result<Tables, Refusal>
     requires autocommit { conn.old.in_transaction ≡ false }
     ensures autocommit { conn.new.in_transaction ≡ false }
     ensures clean { HasCleanDisk (state S.Store conn.new) → HasCleanDisk (state S.Store conn.old) }
     ensures found { (trees : Trees) → HasCleanDisk (state S.Store conn.new) → IsTakenAs our_schema trees (state S.Store conn.old)
-        → IfOk result (λ m. IsTrue (state S.Store conn.new).is_open → IsFound trees m (state S.Store conn.new)) }
+        → IfOk result (λ tables. IsTrue (state S.Store conn.new).is_open → IsFound trees tables.meta (state S.Store conn.new)) }
+    ensures kept { (trees : Trees) → HasCleanDisk (state S.Store conn.new) → IsTakenAs our_schema trees (state S.Store conn.old)
+        → IfOk result (λ tables. IsTrue keep → IsTrue (state S.Store conn.new).is_open → tables ≡ tables_in (state S.Store conn.new).now.trees) }
     ensures opens { (trees : Trees) → HasCleanDisk (state S.Store conn.new) → IsTakenAs our_schema trees (state S.Store conn.old)
         → OnOk result (IsTrue (state S.Store conn.new).is_open) }
     ensures stays { (trees : Trees) → HasCleanDisk (state S.Store conn.new) → IsTakenAs our_schema trees (state S.Store conn.old)
@@ -113,7 +123,14 @@ fn find<S: Alter>(conn: &mut Connection<S>, alloc: Global) -> Result<MetaRow, Re
     ensures cause { IfErr result (λ e. (e ≡ Refusal.OutOfMemory) ⊎ ((e ≡ Refusal.Store) ⊎ (e ≡ Refusal.NotAReplica))) }
 {
     check_number(conn, 2)?;
-    find_row(conn, alloc)
+    find_row(conn, alloc, keep)
+}
+
+// The tables, if their rows were to be kept.
+fn kept(tables: Tables, keep: bool) -> Option<Tables>
+    ensures { IfSome result (λ kept. (kept ≡ tables) × IsTrue keep) }
+{
+    if keep { Some(tables) } else { None }
 }
 
 /// Whether the row is that of this server and primary.
@@ -124,13 +141,14 @@ pub(crate) fn is_of(meta: &MetaRow, server: ServerId, primary: ServerId) -> bool
     meta.server == server && meta.primary == primary
 }
 
-// Finds the tables of this server and primary.
+// Finds the tables of this server and primary, and answers their rows if these are to be kept.
 fn resume<S: Alter>(
     conn: &mut Connection<S>,
     alloc: Global,
     server: ServerId,
     primary: ServerId,
-) -> Result<(), Refusal>
+    keep: bool,
+) -> Result<Option<Tables>, Refusal>
     requires autocommit { conn.old.in_transaction ≡ false }
     requires ours { (state S.Store conn.old).now.schema ≡ our_schema }
     ensures autocommit { conn.new.in_transaction ≡ false }
@@ -140,6 +158,8 @@ fn resume<S: Alter>(
         × IsAdopted server primary trees (state S.Store conn.new).now.trees) }
     ensures opens { (trees : Trees) → HasCleanDisk (state S.Store conn.new) → IsTaken trees (state S.Store conn.old)
         → OnOk result (IsTrue (state S.Store conn.new).is_open) }
+    ensures fresh { (trees : Trees) → HasCleanDisk (state S.Store conn.new) → IsTaken trees (state S.Store conn.old)
+        → IfOk result (λ rows. IsTrue (state S.Store conn.new).is_open → AreFresh rows (state S.Store conn.new)) }
     ensures stays { (trees : Trees) → HasCleanDisk (state S.Store conn.new) → IsTaken trees (state S.Store conn.old)
         → OnErr result (IsTrue (state S.Store conn.new).is_open → StaysAs trees (state S.Store conn.new)) }
     ensures strange { (trees : Trees) → HasCleanDisk (state S.Store conn.new) → IsTaken trees (state S.Store conn.old)
@@ -148,22 +168,23 @@ fn resume<S: Alter>(
         (λ db. (trees : Trees) → IsTaken trees (state S.Store conn.old) → IsAdopted server primary trees db) }
     ensures cause { IfErr result (λ e. (e ≡ Refusal.OutOfMemory) ⊎ ((e ≡ Refusal.Store) ⊎ (e ≡ Refusal.NotAReplica))) }
 {
-    let meta = find(conn, alloc)?;
-    if is_of(&meta, server, primary) {
-        Ok(())
+    let tables = find(conn, alloc, keep)?;
+    if is_of(&tables.meta, server, primary) {
+        Ok(kept(tables, keep))
     } else {
         Err(Refusal::NotAReplica)
     }
 }
 
-/// Makes the tables of this server and primary if there are none, or finds them, and moves those of the first schema up.
-pub(crate) fn adopt_tables<S: Alter>(
+// Of a database that hasn't our tables: makes those of this server and primary if there are none, or moves those of the first schema up.
+fn settle<S: Alter>(
     conn: &mut Connection<S>,
     alloc: Global,
     server: ServerId,
     primary: ServerId,
 ) -> Result<(), Refusal>
     requires autocommit { conn.old.in_transaction ≡ false }
+    requires others { (state S.Store conn.old).now.schema ≡ our_schema → ⊥ }
     ensures autocommit { conn.new.in_transaction ≡ false }
     ensures clean { HasCleanDisk (state S.Store conn.new) → HasCleanDisk (state S.Store conn.old) }
     ensures settled { (trees : Trees) → HasCleanDisk (state S.Store conn.new) → IsTaken trees (state S.Store conn.old)
@@ -184,14 +205,54 @@ pub(crate) fn adopt_tables<S: Alter>(
     if is_blank(conn) {
         return begin(conn, server, primary);
     }
-    if is_ours(conn) {
-        return resume(conn, alloc, server, primary);
-    }
     adopt_first_tables(conn, alloc, server, primary)
 }
 
-/// Finds the tables of a replica, whichever it is, and moves those of the first schema up.
-pub(crate) fn recover<S: Alter>(conn: &mut Connection<S>, alloc: Global) -> Result<(), Refusal>
+/// Makes the tables of this server and primary if there are none, or finds them, and moves those of the first schema up. If they were found as
+/// they are, and their rows are to be kept, it answers these.
+pub(crate) fn adopt_tables<S: Alter>(
+    conn: &mut Connection<S>,
+    alloc: Global,
+    server: ServerId,
+    primary: ServerId,
+    keep: bool,
+) -> Result<Option<Tables>, Refusal>
+    requires autocommit { conn.old.in_transaction ≡ false }
+    ensures autocommit { conn.new.in_transaction ≡ false }
+    ensures clean { HasCleanDisk (state S.Store conn.new) → HasCleanDisk (state S.Store conn.old) }
+    ensures settled { (trees : Trees) → HasCleanDisk (state S.Store conn.new) → IsTaken trees (state S.Store conn.old)
+        → OnOk result (IsTrue (state S.Store conn.new).is_open → IsKept (state S.Store conn.new)
+        × IsAdopted server primary trees (state S.Store conn.new).now.trees) }
+    ensures opens { (trees : Trees) → HasCleanDisk (state S.Store conn.new) → IsTaken trees (state S.Store conn.old)
+        → OnOk result (IsTrue (state S.Store conn.new).is_open) }
+    ensures fresh { (trees : Trees) → HasCleanDisk (state S.Store conn.new) → IsTaken trees (state S.Store conn.old)
+        → IfOk result (λ rows. IsTrue (state S.Store conn.new).is_open → AreFresh rows (state S.Store conn.new)) }
+    ensures stays { (trees : Trees) → HasCleanDisk (state S.Store conn.new) → IsTaken trees (state S.Store conn.old)
+        → OnErr result (IsTrue (state S.Store conn.new).is_open → StaysAs trees (state S.Store conn.new)) }
+    ensures strange { (trees : Trees) → HasCleanDisk (state S.Store conn.new) → IsTaken trees (state S.Store conn.old)
+        → IfErr result (λ e. e ≡ Refusal.NotAReplica → IsAnothers server primary trees) }
+    ensures store { (trees : Trees) → HasCleanDisk (state S.Store conn.new) → IsTaken trees (state S.Store conn.old)
+        → IfErr result (λ e. e ≡ Refusal.Store → IsSound no_schema trees ⊎ AreSomebodys trees) }
+    ensures survives { Survives (state S.Store conn.old) (state S.Store conn.new)
+        (λ db. (trees : Trees) → IsTaken trees (state S.Store conn.old) → IsAdopted server primary trees db) }
+    ensures cause { IfErr result (λ e. (e ≡ Refusal.OutOfMemory) ⊎ ((e ≡ Refusal.Store) ⊎ (e ≡ Refusal.NotAReplica))) }
+{
+    if is_ours(conn) {
+        return resume(conn, alloc, server, primary, keep);
+    }
+    match settle(conn, alloc, server, primary) {
+        Ok(()) => Ok(None),
+        Err(refusal) => Err(refusal),
+    }
+}
+
+/// Finds the tables of a replica, whichever it is, and moves those of the first schema up. If they were found as they are, and their rows are to
+/// be kept, it answers these.
+pub(crate) fn recover<S: Alter>(
+    conn: &mut Connection<S>,
+    alloc: Global,
+    keep: bool,
+) -> Result<Option<Tables>, Refusal>
     requires autocommit { conn.old.in_transaction ≡ false }
     ensures autocommit { conn.new.in_transaction ≡ false }
     ensures clean { HasCleanDisk (state S.Store conn.new) → HasCleanDisk (state S.Store conn.old) }
@@ -199,6 +260,8 @@ pub(crate) fn recover<S: Alter>(conn: &mut Connection<S>, alloc: Global) -> Resu
         → OnOk result (IsTrue (state S.Store conn.new).is_open → IsKept (state S.Store conn.new) × IsResumed trees (state S.Store conn.new).now.trees) }
     ensures opens { (trees : Trees) → HasCleanDisk (state S.Store conn.new) → IsTaken trees (state S.Store conn.old)
         → OnOk result (IsTrue (state S.Store conn.new).is_open) }
+    ensures fresh { (trees : Trees) → HasCleanDisk (state S.Store conn.new) → IsTaken trees (state S.Store conn.old)
+        → IfOk result (λ rows. IsTrue (state S.Store conn.new).is_open → AreFresh rows (state S.Store conn.new)) }
     ensures stays { (trees : Trees) → HasCleanDisk (state S.Store conn.new) → IsTaken trees (state S.Store conn.old)
         → OnErr result (IsTrue (state S.Store conn.new).is_open → StaysAs trees (state S.Store conn.new)) }
     ensures strange { (trees : Trees) → HasCleanDisk (state S.Store conn.new) → IsTaken trees (state S.Store conn.old)
@@ -209,9 +272,12 @@ pub(crate) fn recover<S: Alter>(conn: &mut Connection<S>, alloc: Global) -> Resu
         (λ db. (trees : Trees) → IsTaken trees (state S.Store conn.old) → IsResumed trees db) }
     ensures cause { IfErr result (λ e. (e ≡ Refusal.OutOfMemory) ⊎ ((e ≡ Refusal.Store) ⊎ (e ≡ Refusal.NotAReplica))) }
 {
-    if !is_ours(conn) {
-        return recover_first(conn, alloc);
+    if is_ours(conn) {
+        let tables = find(conn, alloc, keep)?;
+        return Ok(kept(tables, keep));
     }
-    find(conn, alloc)?;
-    Ok(())
+    match recover_first(conn, alloc) {
+        Ok(()) => Ok(None),
+        Err(refusal) => Err(refusal),
+    }
 }

@@ -197,7 +197,7 @@ fn take_copy<S: Alter + Drop>(
     if is_first(&conn) {
         return Err((NotCopied::OnlyInFile, conn));
     }
-    match SqlKeeper::recovered(alloc, conn) {
+    match SqlKeeper::recovered(alloc, conn, false) {
         Ok(keeper) => Ok(keeper),
         Err((refusal, conn)) => Err((NotCopied::Refused(refusal), conn)),
     }
@@ -240,7 +240,7 @@ impl<B: Start> SqlKeeper<FileStore<SparingFile<B>>> {
             Ok(conn) => conn,
             Err(refusal) => return Err((refusal, None)),
         };
-        match SqlKeeper::adopted(rt.alloc(), conn, server, primary) {
+        match SqlKeeper::adopted(rt.alloc(), conn, server, primary, true) {
             Ok(keeper) => Ok(keeper),
             Err((refusal, conn)) => Err((refusal, Some(GivenBack::Connection(conn)))),
         }
@@ -271,7 +271,7 @@ impl<B: Start> SqlKeeper<FileStore<SparingFile<B>>> {
             Ok(conn) => conn,
             Err(refusal) => return Err((refusal, None)),
         };
-        match SqlKeeper::recovered(rt.alloc(), conn) {
+        match SqlKeeper::recovered(rt.alloc(), conn, true) {
             Ok(keeper) => Ok(keeper),
             Err((refusal, conn)) => Err((refusal, Some(GivenBack::Connection(conn)))),
         }

@@ -128,7 +128,7 @@ impl<S: Alter + Drop> FirstKeeper<S> {
     {
         let FirstKeeper { mut conn, alloc } = self;
         match moving::move_up(&mut conn, alloc) {
-            Ok(()) => Ok(SqlKeeper::opened(alloc, conn)),
+            Ok(()) => Ok(SqlKeeper::opened(alloc, conn, None)),
             Err(error) => Err((FirstKeeper { conn, alloc }, refusal_of(error))),
         }
     }

@@ -11,7 +11,7 @@ ghost use Rattle.mr_store.specs.KeeperCalls.{failures_for};
 ghost use Rattle.sqlite_catalog.specs.Listing.{IsSound};
 ghost use Rattle.mr_rows.specs.Schema.{no_schema};
 ghost use Rattle.mr_rows.specs.Database.{IsKept, tables_in};
-ghost use Rattle.mr_sql.specs.Found.{IsAdopted, IsResumed, IsTaken, LeavesTables, StaysAs};
+ghost use Rattle.mr_sql.specs.Found.{AreFresh, IsAdopted, IsResumed, IsTaken, LeavesTables, StaysAs};
 ghost use Rattle.mr_sql.specs.Refused.{AreSomebodys, IsAnothers, IsNobodys};
 
 use crate::adopt::{adopt_tables, recover, retaken};
@@ -35,6 +35,8 @@ pub struct SqlKeeper<S: Alter> {
     conn: Connection<S>,
     failures: u64,
     alloc: Global,
+    // All rows, as the open read them to test them. The first call that needs them takes them, and a change drops them.
+    fresh: Option<Tables>,
 }
 
 impl<S: Alter> Model for SqlKeeper<S> {
@@ -43,6 +45,7 @@ impl<S: Alter> Model for SqlKeeper<S> {
     ghost use Rattle.sqlite.specs.State.{HasCleanDisk};
     ghost use Rattle.sqlite.specs.Held.{Held, state, held_code};
     ghost use Rattle.mr_rows.specs.Database.{IsKept};
+    ghost use Rattle.mr_sql.specs.Found.{AreFresh};
 
     ghost Value = { Held S × ℕ };
 
@@ -51,7 +54,8 @@ impl<S: Alter> Model for SqlKeeper<S> {
     ghost view = { λ k. (k.conn, k.failures) };
 
     ghost invariant = { λ k. (k.conn.in_transaction ≡ false)
-        × (HasCleanDisk (state S.Store k.conn) → IsTrue (state S.Store k.conn).is_open → IsKept (state S.Store k.conn)) };
+        × (HasCleanDisk (state S.Store k.conn) → IsTrue (state S.Store k.conn).is_open → IsKept (state S.Store k.conn))
+        × (HasCleanDisk (state S.Store k.conn) → IsTrue (state S.Store k.conn).is_open → AreFresh k.fresh (state S.Store k.conn)) };
 }
 
 /// The fault that an error is, counted if the store failed. A count that is full is reported as out of memory.
@@ -93,7 +97,8 @@ impl<S: Alter> Keeper for SqlKeeper<S> {
     }
 
     fn load_part(&mut self, scope: &Scope<'_>) -> Result<Part, Fault> {
-        match load::load_part(&mut self.conn, self.alloc, scope) {
+        let fresh = self.fresh.take();
+        match load::load_part(&mut self.conn, self.alloc, scope, fresh) {
             Ok(value) => Ok(value),
             Err(error) => Err(fault_of(&mut self.failures, error)),
         }
@@ -107,13 +112,15 @@ impl<S: Alter> Keeper for SqlKeeper<S> {
     }
 
     fn read(&mut self) -> Result<Tables, Fault> {
-        match load::read_agreeing(&mut self.conn, self.alloc) {
+        let fresh = self.fresh.take();
+        match load::read_agreeing(&mut self.conn, self.alloc, fresh) {
             Ok(value) => Ok(value),
             Err(error) => Err(fault_of(&mut self.failures, error)),
         }
     }
 
     fn apply(&mut self, change: &Change) -> Result<(), Fault> {
+        self.fresh = None;
         match changes::apply(&mut self.conn, self.alloc, change) {
             Ok(value) => Ok(value),
             Err(error) => Err(fault_of(&mut self.failures, error)),
@@ -154,6 +161,7 @@ impl SqlKeeper<MemStore> {
                 conn,
                 failures: 0,
                 alloc,
+                fresh: None,
             }),
             Err(error) => Err(refusal_of(error)),
         }
@@ -209,7 +217,7 @@ impl<S: Alter + Drop> SqlKeeper<S> {
             Ok(conn) => conn,
             Err((error, store)) => return Err((refusal_of(error), GivenBack::Store(store))),
         };
-        match SqlKeeper::adopted(alloc, conn, server, primary) {
+        match SqlKeeper::adopted(alloc, conn, server, primary, false) {
             Ok(keeper) => Ok(keeper),
             Err((refusal, conn)) => Err((refusal, GivenBack::Connection(conn))),
         }
@@ -252,7 +260,7 @@ impl<S: Alter + Drop> SqlKeeper<S> {
             Ok(conn) => conn,
             Err((error, store)) => return Err((refusal_of(error), GivenBack::Store(store))),
         };
-        match SqlKeeper::recovered(alloc, conn) {
+        match SqlKeeper::recovered(alloc, conn, false) {
             Ok(keeper) => Ok(keeper),
             Err((refusal, conn)) => Err((refusal, GivenBack::Connection(conn))),
         }
@@ -260,7 +268,8 @@ impl<S: Alter + Drop> SqlKeeper<S> {
 }
 
 impl<S: Alter + Drop> SqlKeeper<S> {
-    /// The keeper, if the rows of its tables agree with each other. Else it is refused with 25, and let go as it is. It reads all rows.
+    /// The keeper, if the rows of its tables agree with each other. Else it is refused with 25, and let go as it is. It reads all rows unless its open
+    /// did, and keeps them.
     pub(crate) fn agreeing(self) -> Result<SqlKeeper<S>, Refusal>
         ensures agree { IfOk result (λ k. HasCleanDisk (state S.Store k.0) → IsTrue (state S.Store k.0).is_open
             → agree (tables_in (state S.Store k.0).now.trees) ≡ true) }
@@ -278,12 +287,14 @@ impl<S: Alter + Drop> SqlKeeper<S> {
             mut conn,
             failures,
             alloc,
+            fresh,
         } = self;
-        match load::read_agreeing(&mut conn, alloc) {
-            Ok(_) => Ok(SqlKeeper {
+        match load::read_agreeing(&mut conn, alloc, fresh) {
+            Ok(tables) => Ok(SqlKeeper {
                 conn,
                 failures,
                 alloc,
+                fresh: Some(tables),
             }),
             Err(error) => Err(refusal_of(error)),
         }
@@ -291,25 +302,28 @@ impl<S: Alter + Drop> SqlKeeper<S> {
 }
 
 impl<S: Alter> SqlKeeper<S> {
-    /// The keeper of this connection, of which no call has failed.
-    pub(crate) fn opened(alloc: Global, conn: Connection<S>) -> SqlKeeper<S>
+    /// The keeper of this connection, of which no call has failed, with these rows if the open read them.
+    pub(crate) fn opened(alloc: Global, conn: Connection<S>, fresh: Option<Tables>) -> SqlKeeper<S>
         requires autocommit { conn.in_transaction ≡ false }
         requires kept { HasCleanDisk (state S.Store conn) → IsTrue (state S.Store conn).is_open → IsKept (state S.Store conn) }
+        requires fresh { HasCleanDisk (state S.Store conn) → IsTrue (state S.Store conn).is_open → AreFresh fresh (state S.Store conn) }
         ensures { result ≡ (conn, 0) }
     {
         SqlKeeper {
             conn,
             failures: 0,
             alloc,
+            fresh,
         }
     }
 
-    /// The keeper of a connection that was just opened, as `adopt` makes it.
+    /// The keeper of a connection that was just opened, as `adopt` makes it. It keeps the rows that the open reads, if these are to be kept.
     pub(crate) fn adopted(
         alloc: Global,
         mut conn: Connection<S>,
         server: ServerId,
         primary: ServerId,
+        keep: bool,
     ) -> Result<SqlKeeper<S>, (Refusal, Connection<S>)>
         requires autocommit { conn.in_transaction ≡ false }
         requires taken { HasCleanDisk (state S.Store conn) → IsTaken (state S.Store conn).committed.trees (state S.Store conn) }
@@ -333,16 +347,17 @@ impl<S: Alter> SqlKeeper<S> {
             (λ e. HasCleanDisk (state S.Store e.1) → (trees : Trees) → (state S.Store e.1).may_leave trees
             → (trees ≡ (state S.Store conn).committed.trees) ⊎ IsAdopted server primary (state S.Store conn).committed.trees trees) }
     {
-        match adopt_tables(&mut conn, alloc, server, primary) {
-            Ok(()) => Ok(SqlKeeper::opened(alloc, conn)),
+        match adopt_tables(&mut conn, alloc, server, primary, keep) {
+            Ok(fresh) => Ok(SqlKeeper::opened(alloc, conn, fresh)),
             Err(refusal) => Err((refusal, conn)),
         }
     }
 
-    /// The keeper of a connection that was just opened, as `resume` makes it.
+    /// The keeper of a connection that was just opened, as `resume` makes it. It keeps the rows that the open reads, if these are to be kept.
     pub(crate) fn recovered(
         alloc: Global,
         mut conn: Connection<S>,
+        keep: bool,
     ) -> Result<SqlKeeper<S>, (Refusal, Connection<S>)>
         requires autocommit { conn.in_transaction ≡ false }
         requires taken { HasCleanDisk (state S.Store conn) → IsTaken (state S.Store conn).committed.trees (state S.Store conn) }
@@ -363,8 +378,8 @@ impl<S: Alter> SqlKeeper<S> {
             (λ e. HasCleanDisk (state S.Store e.1) → (trees : Trees) → (state S.Store e.1).may_leave trees
             → (trees ≡ (state S.Store conn).committed.trees) ⊎ IsResumed (state S.Store conn).committed.trees trees) }
     {
-        match recover(&mut conn, alloc) {
-            Ok(()) => Ok(SqlKeeper::opened(alloc, conn)),
+        match recover(&mut conn, alloc, keep) {
+            Ok(fresh) => Ok(SqlKeeper::opened(alloc, conn, fresh)),
             Err(refusal) => Err((refusal, conn)),
         }
     }

@@ -19,6 +19,9 @@ returns-in_err-check_number-clause-strange g c trees clean taken =
 pub returns-clause-found : goal.returns-clause-found
 returns-clause-found g c trees clean taken = c.find_row.ensures.found trees clean (c.in_ok-check_number.ensures.taken our_schema trees (inl refl) (c.find_row.ensures.clean clean) taken)
 
+pub returns-clause-kept : goal.returns-clause-kept
+returns-clause-kept g c trees clean taken = c.find_row.ensures.kept trees clean (c.in_ok-check_number.ensures.taken our_schema trees (inl refl) (c.find_row.ensures.clean clean) taken)
+
 pub returns-clause-opens : goal.returns-clause-opens
 returns-clause-opens g c trees clean taken = c.find_row.ensures.opens trees clean (c.in_ok-check_number.ensures.taken our_schema trees (inl refl) (c.find_row.ensures.clean clean) taken)
 

@@ -23,3 +23,6 @@ pub returns-in-Err-clause-crash : goal.returns-in-Err-clause-crash
 returns-in-Err-clause-crash g c clean trees left =
     let taken = c.requires.taken (c.adopt_tables.ensures.clean clean) in
     elim (c.adopt_tables.ensures.survives.crash clean trees left) [ inl before ↦ inl (g.met.S.Store.settled c.args.conn.store trees taken.is_open before) | inr made ↦ inr (made _ taken) ]
+
+pub opened-requires-clause-fresh : goal.opened-requires-clause-fresh
+opened-requires-clause-fresh g c clean now = c.in-Ok.ensures.fresh _ clean (c.requires.taken (c.adopt_tables.ensures.clean clean)) now
