@@ -1,4 +1,4 @@
-ghost use Rattle.std.specs.Prelude.{◌≡◌, true, IfOk, OnOk, OnErr};
+ghost use Rattle.std.specs.Prelude.{◌≡◌, ◌↔◌, true, IsTrue, IfOk, OnOk, OnErr};
 ghost use Rattle.mr_model.specs.Replica.{opening};
 ghost use Rattle.mr_model.specs.Tables.{tables_of, Stands};
 ghost use Rattle.mr_tables.specs.Change.{changed};
@@ -12,7 +12,7 @@ use std::alloc::{AllocError, Global};
 
 /// Whether the rows of each table are in the order of their keys.
 pub fn are_in_order(tables: &Tables) -> bool
-    ensures { result ≡ true → AreInOrder tables.now }
+    ensures { IsTrue result ↔ AreInOrder tables.now }
 {
     let room = is_in_order(&tables.room);
     let vector = is_in_order(&tables.vector);

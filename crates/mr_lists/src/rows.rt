@@ -1,4 +1,4 @@
-ghost use Rattle.std.specs.Prelude.{◌≡◌, ◌≤◌, Bool, true, List, bytes_eq, IfOk};
+ghost use Rattle.std.specs.Prelude.{◌≡◌, ◌↔◌, ◌≤◌, Bool, List, bytes_eq, IsTrue, IfOk};
 ghost use Rattle.mr_model.specs.Texts.{Text};
 ghost use Rattle.mr_model.specs.Writes.{Id};
 ghost use Rattle.mr_model.specs.Replica.{is_among};
@@ -59,7 +59,7 @@ pub fn copies_of<R: TableRow>(alloc: Global, rows: &[R]) -> Result<Vec<R>, Alloc
 
 /// Whether each row's key stands before that of the next row.
 pub fn is_in_order<R: TableRow>(rows: &[R]) -> bool
-    ensures { result ≡ true → InOrder R.before R.key rows.now }
+    ensures { IsTrue result ↔ InOrder R.before R.key rows.now }
 {
     rows.is_sorted_by(|one, next| one.is_before(next))
 }

@@ -14,6 +14,6 @@ returns-then-is_in_order-2 g c = λ all order.
     put_all_same before key g.met.R.TableRow.order copies sorted all
     (has_moved copies sorted c.sort_by.ensures.permutation)
     (moved_has copies sorted c.sort_by.ensures.permutation)
-    (subst (InOrder before key) c.deref-2.ensures.value (c.is_in_order-2.ensures c.if-is_in_order-2.true))
+    (subst (InOrder before key) c.deref-2.ensures.value (c.is_in_order-2.ensures.0 c.if-is_in_order-2.true))
     (order c.if-not-is_ordered.false)
     ∙ ap (λ rows. put_all before key rows all) c.in_ok-copies.ensures
