@@ -194,3 +194,7 @@ not_meta trees shown (Err e) same refused rows = λ other.
     let stored = length-map (trees 0) (columns_from 1 7) in
     let few = rows.1 in
     refused (omega (arith, many, stored, few)) (all_shown (IsShownAs meta_form) (IsStoredAs meta_form) (columns_from 1 7) (trees 0) shown (λ r is. is) same rows.0)
+
+pub not_shown : {X : Type 0} (P : Row → Type 0) (shown : List Row) (r : Result X Error) → IfErr r (λ e. e ≢ SqliteFailure code.OutOfMemory → ¬ All P shown) → All P shown → IfErr r (λ e. e ≢ SqliteFailure code.OutOfMemory → ⊥)
+not_shown P shown (Ok x) refused all = tt
+not_shown P shown (Err e) refused all = λ other. refused other all

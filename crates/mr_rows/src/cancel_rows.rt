@@ -74,6 +74,8 @@ impl StoredRow for CancelledRow {
 
     ghost stored_is = { λ r is. is };
 
+    ghost shown_is = { λ r is. is };
+
     ghost put_none = { λ t. refl };
 
     ghost put_more = { λ x xs t. refl };
@@ -151,6 +153,8 @@ impl StoredRow for CancelRow {
     }
 
     ghost stored_is = { λ r is. is };
+
+    ghost shown_is = { λ r is. is };
 
     ghost put_none = { λ t. refl };
 

@@ -1,4 +1,5 @@
-ghost use Rattle.std.specs.Prelude.{◌≡◌, ◌≢◌, [], ◌∷◌, false, length, map, List, IfOk, IfErr, OnOk, IsTrue};
+ghost use Rattle.std.specs.Prelude.{◌≡◌, ◌≢◌, [], ◌∷◌, false, length, map, List, IfOk, IfErr, OnOk, IsTrue, ⊤};
+ghost use Rattle.std.specs.List.{All};
 ghost use Rattle.std.specs.List.Sorted.{IsPermutation};
 ghost use Rattle.std.specs.Cmp.{IsTotalOrder};
 ghost use Rattle.std.specs.declared.cmp.Ordering.{Ordering as Order};
@@ -64,7 +65,8 @@ pub trait StoredRow: Drop {
         ensures reads { ReadsKept (state S.Store conn.old) (state S.Store conn.new) result
             (λ rows. IsPermutation (rows_of (tables_in (state S.Store conn.old).now.trees)) (map (λ row. form.row_in (Null ∷ row)) rows.items)) }
         ensures looks { Looks (state S.Store conn.old) (state S.Store conn.new) result
-            (λ rows. IsPermutation (map (columns_from 1 (length form.table.columns)) ((state S.Store conn.old).now.trees form.table.tree)) rows.items) };
+            (λ rows. IsPermutation (map (columns_from 1 (length form.table.columns)) ((state S.Store conn.old).now.trees form.table.tree)) rows.items) }
+        ensures cause { FailsByStore (λ _. ⊤) (state S.Store conn.old) (state S.Store conn.new) result };
 
     /// Puts the row in place of the one with its key, if there is one.
     fn put<S: Alter>(&self, tx: &mut Transaction<'_, S>, alloc: Global) -> Result<usize, Error>
@@ -75,6 +77,9 @@ pub trait StoredRow: Drop {
 
     // what holds of the columns that a query shows holds of the stored row
     ghost stored_is: { (r : _) → IsShownAs form (columns_from 1 (length form.table.columns) r) → IsStoredAs form r };
+
+    // and the other way round
+    ghost shown_is: { (r : _) → IsStoredAs form r → IsShownAs form (columns_from 1 (length form.table.columns) r) };
 
     ghost put_none: { (t : Tables) → put_in [] t ≡ t };
 
@@ -117,6 +122,14 @@ pub(crate) trait RequestRow: StoredRow {
 /// The rows of an answer, in its order.
 pub fn read_all<R: StoredRow>(alloc: Global, rows: &[Row]) -> Result<Vec<R>, Error>
     ensures { IfOk result (λ out. out.items ≡ map (λ row. R.form.row_in (Null ∷ row)) rows.now) }
+{
+    read_rows(alloc, rows)
+}
+
+/// As `read_all`, and none is refused that is a row of the table within its limits.
+pub(crate) fn read_rows<R: StoredRow>(alloc: Global, rows: &[Row]) -> Result<Vec<R>, Error>
+    ensures same { IfOk result (λ out. out.items ≡ map (λ row. R.form.row_in (Null ∷ row)) rows.now) }
+    ensures refused { IfErr result (λ e. e ≢ Error.SqliteFailure ErrorCode.OutOfMemory → ¬ All (IsShownAs R.form) rows.now) }
 {
     let mut out = Vec::new(alloc);
     'rows: for row in rows {

@@ -88,6 +88,8 @@ impl StoredRow for RoomName {
 
     ghost stored_is = { λ r is. is };
 
+    ghost shown_is = { λ r is. is };
+
     ghost put_none = { λ t. refl };
 
     ghost put_more = { λ x xs t. refl };
@@ -138,6 +140,8 @@ impl StoredRow for VectorRow {
     }
 
     ghost stored_is = { λ r is. is };
+
+    ghost shown_is = { λ r is. is };
 
     ghost put_none = { λ t. refl };
 
@@ -190,6 +194,8 @@ impl StoredRow for LogRow {
     }
 
     ghost stored_is = { λ r is. is };
+
+    ghost shown_is = { λ r is. is };
 
     ghost put_none = { λ t. refl };
 
@@ -256,6 +262,8 @@ impl StoredRow for BookingRow {
     }
 
     ghost stored_is = { λ r is. is };
+
+    ghost shown_is = { λ r is. is };
 
     ghost put_none = { λ t. refl };
 
@@ -335,6 +343,8 @@ impl StoredRow for ErrorRow {
     }
 
     ghost stored_is = { λ r is. is };
+
+    ghost shown_is = { λ r is. is };
 
     ghost put_none = { λ t. refl };
 

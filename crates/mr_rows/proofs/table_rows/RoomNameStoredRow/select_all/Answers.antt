@@ -2,6 +2,7 @@ use Rattle.std.proofs.Common.{[]}
 use Rattle.sqlite.specs.State.{Shown}
 use Rattle.sqlite.specs.Held.{state}
 use Rattle.mr_rows.proofs.StatementMeaning.{all_room_text, all_room_is}
+use Rattle.mr_rows.proofs.SureTexts.{all_room_sure}
 use Rattle.mr_rows.proofs.QueryLemmas.{reads_so, looks_so}
 use Rattle.mr_rows.proofs.SelectLemmas.{shows_all_room, sees_all_room}
 use Rattle.mr_rows.proofs.table_rows.RoomNameStoredRow.select_all.Goals as goal
@@ -20,3 +21,6 @@ returns-clause-looks g c =
     let old = state g.S.Store c.args.conn.now in
     let new = state g.S.Store c.ask.new.conn in
     looks_so old new c.ask.result (λ rows. Shown all_room_text ([]) old new rows.items) _ (λ here rows shown. sees_all_room old new rows.items here.schema shown) (c.ask.ensures.looks)
+
+pub returns-clause-cause : goal.returns-clause-cause
+returns-clause-cause g c = c.ask.ensures.cause all_room_sure
