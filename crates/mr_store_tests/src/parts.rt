@@ -8,7 +8,9 @@ use crate::tables::{Rows, tables};
 use mr_base::{Batch, Refusal};
 use mr_part::{Part, Scope};
 use mr_tables::Change;
+use mr_tables::boards::board_with;
 use std::alloc::Global;
+use std::rc::Rc;
 
 const AT_TWO_ELSE_FOUR: Ask = Ask {
     title: "Alpha",
@@ -46,13 +48,33 @@ fn received(alloc: Global, rows: &Rows, batch: &Batch) -> Result<(Told, Change),
     Ok(((writes, commits), change))
 }
 
-/// Whether the part answers so, and its change puts these rows.
+/// The same over a board of all bookings, which is shared.
+fn received_over(alloc: Global, rows: &Rows, batch: &Batch) -> Result<(Told, Change), Refusal> {
+    let tables = tables(alloc, rows)?;
+    let board = Rc::new(alloc, board_with(alloc, &tables)?)?;
+    let part = Part::over_board(alloc, &Scope::Items(&batch.items), &tables, board)?;
+    let (writes, commits, change) = part.receive(batch)?;
+    Ok(((writes, commits), change))
+}
+
+/// Whether a part answered so, and its change puts these rows.
+fn is_answered(
+    answer: Result<(Told, Change), Refusal>,
+    wanted: Result<Told, Refusal>,
+    put: Put,
+) -> bool {
+    match answer {
+        Ok((told, change)) => wanted == Ok(told) && puts(&change, put),
+        Err(refusal) => wanted == Err(refusal),
+    }
+}
+
+/// Whether a part with a board of its own and one over a shared board answer so, and their changes put these rows.
 fn is_received(alloc: Global, (primary, lines, wanted, put): Case) -> Result<bool, Refusal> {
     let batch = batch(alloc, primary, lines)?;
-    match received(alloc, &KEPT, &batch) {
-        Ok((told, change)) => Ok(wanted == Ok(told) && puts(&change, put)),
-        Err(refusal) => Ok(wanted == Err(refusal)),
-    }
+    let alone = is_answered(received(alloc, &KEPT, &batch), wanted, put);
+    let shared = is_answered(received_over(alloc, &KEPT, &batch), wanted, put);
+    Ok(alone && shared)
 }
 
 #[test]
