@@ -1,7 +1,6 @@
 -- Rows that an open read, and that are still there.
-use Rattle.std.proofs.Common.{◌≡◌, Option, None, Some, Ok, Err, Result, Bool, IfOk, IfSome, IsTrue, refl, sym, ap, ◌∙◌}
+use Rattle.std.proofs.Common.{◌≡◌, Option, None, Some, Ok, Err, Result, Bool, IfOk, IfSome, IsTrue, refl, ◌∙◌}
 use Rattle.sqlite.specs.declared.error.Error.{Error}
-use Rattle.sqlite.specs.Effect.{Database}
 use Rattle.sqlite.specs.State.{State, HasCleanDisk}
 use Rattle.mr_model.specs.Tables.{Tables}
 use Rattle.mr_rows.specs.Database.{tables_in}
@@ -13,11 +12,6 @@ use Rattle.mr_sql.specs.Found.{AreFresh}
 pub uses_same : {X : Type 0} (a : State) (r : Result X Error) (P : X → Type 0) → (HasCleanDisk a → IsTrue a.is_open → IfOk r P) → ReadsInUse a a r P
 uses_same a (Ok x) P told = (survives_itself a _, λ clean now. (now, λ held. (refl, refl)), λ clean held. (held.1, told clean held.1))
 uses_same a (Err e) P told = (survives_itself a _, λ clean now. (now, λ held. (refl, refl)), λ clean held. (tt, tt))
-
--- rows that are still there after the database was read
-pub still_fresh : (rows : Option Tables) (a b : State) → b.now ≡ a.now → AreFresh rows a → AreFresh rows b
-still_fresh None a b same fresh = tt
-still_fresh (Some rows) a b same fresh = fresh ∙ ap (λ (db : Database). tables_in db.trees) (sym same)
 
 -- rows that were kept are those that are there
 pub fresh_of : (rows : Option Tables) (t : Tables) (keep : Bool) (s : State) → IfSome rows (λ kept. (kept ≡ t) × IsTrue keep) → (IsTrue keep → t ≡ tables_in s.now.trees) → AreFresh rows s

@@ -1,4 +1,4 @@
-use Rattle.std.proofs.Common.{◌≡◌, Ok, Some, subst}
+use Rattle.std.proofs.Common.{◌≡◌, Ok, subst}
 use Rattle.sqlite.specs.Held.{state}
 use Rattle.mr_rows.specs.Database.{tables_in}
 use Rattle.mr_rows.proofs.QueryLemmas.{in_use}
