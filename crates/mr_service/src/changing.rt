@@ -44,7 +44,7 @@ pub(crate) fn submit<K: Keeper>(
 {
     let request = read_request(alloc, words)?;
     let part = load(keeper, &Scope::InRoom(&request.room))?;
-    change(keeper, turns::submit(&part, request))
+    change(keeper, turns::submit(part, request))
 }
 
 /// Cancels the booking with this id, which is of the room.

@@ -26,9 +26,9 @@ pub(crate) fn add_room(part: &Part, room: &RoomName) -> Result<(Reply, Change), 
     Ok((Reply::RoomAdded, change))
 }
 
-/// Books a room.
-pub(crate) fn submit(part: &Part, request: Request) -> Result<(Reply, Change), Refusal>
-    ensures { TurnsBy (scopes.InRoom request.room) (submit_request request) part.now result }
+/// Books a room. The part is used up, so that nobody has its board any more when the change is made.
+pub(crate) fn submit(part: Part, request: Request) -> Result<(Reply, Change), Refusal>
+    ensures { TurnsBy (scopes.InRoom request.room) (submit_request request) part result }
 {
     let (_, change) = part.submit(request)?;
     match outcome_in(&change) {
