@@ -1,5 +1,5 @@
 -- Why a query fails, and what reads one after the other makes of it.
-use Rattle.std.proofs.Common.{◌≡◌, ◌≢◌, inl, inr, ℕ, ◌≤◌, List, [], ◌∷◌, ◌++◌, length, append-nil, map, Option, Some, Result, Ok, Err, IfErr, OnErr, IsSome, IsTrue, refl, sym, ap, subst, ◌∙◌, arith}
+use Rattle.std.proofs.Common.{◌≡◌, ◌≢◌, inl, inr, ℕ, ◌≤◌, List, [], ◌∷◌, ◌++◌, length, append-nil, map, Option, Some, Result, Ok, Err, Vec, Global, true, false, IfErr, OnErr, IsSome, IsTrue, refl, sym, ap, subst, ◌∙◌, arith}
 use Rattle.std.specs.Prelude.{⊤}
 use Rattle.std.specs.List.{All, AllByRecursion}
 use Rattle.std.specs.List.Sorted.{IsPermutation}
@@ -7,6 +7,7 @@ use Rattle.std.proofs.lemmas.List.{length-map}
 use Rattle.std.proofs.lemmas.List.Elements.{All-from_recursion}
 use Rattle.std.proofs.lemmas.List.Sorted.{IsPermutation-sym, length_permutation}
 use Rattle.sqlite_disk.specs.Disk.{MoreFaults}
+use Rattle.sqlite_schema.specs.declared.schema.Schema.{Schema}
 use Rattle.sqlite_value.specs.Order.{Row}
 use Rattle.sqlite_trees.specs.Tree.{Trees}
 use Rattle.sqlite_trees.specs.declared.error.StoreError.{StoreError}
@@ -24,20 +25,21 @@ use Rattle.sqlite.specs.State.{State, HasCleanDisk, HasCause, IsUnchanged, IsNoS
 use Rattle.sqlite.proofs.StateLemmas.{survives_then}
 use Rattle.sqlite.proofs.Callers.{IsPlain, given_begin}
 use Rattle.mr_rows.specs.Schema.{our_schema}
-use Rattle.mr_rows.specs.Reads.{IsPlaced, Looks}
-use Rattle.mr_rows.specs.Causes.{IsOfStore, FailsByStore, IsSureUnder, IsSure, ShowsOnly}
-use Rattle.mr_rows.specs.Form.{meta_form}
+use Rattle.mr_rows.specs.Reads.{IsPlacedIn, IsPlaced, ReadsWhere, Looks, first_of}
+use Rattle.mr_rows.specs.Causes.{IsOfStore, FailsByStoreWhere, FailsByStoreIn, FailsByStore, IsSureUnder, IsSureIn, IsSure, ShowsOnly, ShowsRows}
+use Rattle.mr_rows.specs.CellLimits.{are_meta_cells}
+use Rattle.mr_rows.specs.Form.{Form, meta_form}
 use Rattle.mr_rows.specs.Shown.{columns_from, IsShownAs, IsStoredAs, AreStoredAs}
 use Rattle.mr_rows.proofs.FormLemmas.{has_moved}
 use Rattle.mr_rows.proofs.QueryLemmas.{clean_before}
 use Rattle.mr_rows.proofs.StreamedRows.{SoFar, OneOn}
 
 -- a text that is sure is a statement
-never_refused : (sql : List ℕ) (params : Row) (old : State) (e : Error) → old.now.schema ≡ our_schema → IsPlain (understood our_schema sql) → IsSure sql params → ¬ IsNoStatement old sql params e
-never_refused sql params old e schema plain sure (inl (fault, is, same)) = subst IsPlain (sym (ap (λ s. understood s sql) schema) ∙ is) plain
-never_refused sql params old e schema plain sure (inr (c, is, why)) =
-    let known : understood our_schema sql ≡ Ok c = sym (ap (λ s. understood s sql) schema) ∙ is in
-    let it = subst (IsSureUnder our_schema sql params) known sure.1 in
+never_refused_in : (under : Schema) (sql : List ℕ) (params : Row) (old : State) (e : Error) → old.now.schema ≡ under → IsPlain (understood under sql) → IsSureIn under sql params → ¬ IsNoStatement old sql params e
+never_refused_in under sql params old e schema plain sure (inl (fault, is, same)) = subst IsPlain (sym (ap (λ s. understood s sql) schema) ∙ is) plain
+never_refused_in under sql params old e schema plain sure (inr (c, is, why)) =
+    let known : understood under sql ≡ Ok c = sym (ap (λ s. understood s sql) schema) ∙ is in
+    let it = subst (IsSureUnder under sql params) known sure.1 in
     let bare = subst IsPlain known plain in
     elim why [
       | inl part ↦ part.0 it.0
@@ -46,17 +48,20 @@ never_refused sql params old e schema plain sure (inr (c, is, why)) =
     ]
 
 -- what makes a sure query fail is the store
-pub sure_fails : (sql : List ℕ) (params : Row) (old new : State) (e : Error) → IsPlaced old → IsPlain (understood our_schema sql) → IsSure sql params → FailsToQuery sql params old new e → IsOfStore old new e
+pub sure_fails_in : (under : Schema) (sql : List ℕ) (params : Row) (old new : State) (e : Error) → IsPlacedIn under old → IsPlain (understood under sql) → IsSureIn under sql params → FailsToQuery sql params old new e → IsOfStore old new e
 unfolding FailsToQuery IsNotRun
-sure_fails sql params old new e here plain sure (inl (inl refused)) = absurd (never_refused sql params old e here.schema plain sure refused.0)
-sure_fails sql params old new e here plain sure (inl (inr fails)) = inl (fails.0, fails.1, fails.2)
-sure_fails sql params old new e here plain sure (inr (c, it, shows)) =
-    let known : understood our_schema sql ≡ Ok c = sym (ap (λ s. understood s sql) here.schema) ∙ it.is in
+sure_fails_in under sql params old new e here plain sure (inl (inl refused)) = absurd (never_refused_in under sql params old e here.schema plain sure refused.0)
+sure_fails_in under sql params old new e here plain sure (inl (inr fails)) = inl (fails.0, fails.1, fails.2)
+sure_fails_in under sql params old new e here plain sure (inr (c, it, shows)) =
+    let known : understood under sql ≡ Ok c = sym (ap (λ s. understood s sql) here.schema) ∙ it.is in
     let bare = subst IsPlain known plain in
     let refuses = rw (bare.0, bare.1, append-nil params) at shows in
     let db : refuses.0 ≡ old.now = subst (λ b. IsSourceOf b old.now refuses.0) (ap (λ s. reads_listing s sql) here.schema ∙ sure.0) refuses.1 in
-    let told = subst (IsSureUnder our_schema sql params) known sure.1 in
+    let told = subst (IsSureUnder under sql params) known sure.1 in
     inr (told.2 old.step_limit refuses.0 e (ap (λ (d : Database). d.schema) db ∙ here.schema) refuses.2)
+
+pub sure_fails : (sql : List ℕ) (params : Row) (old new : State) (e : Error) → IsPlaced old → IsPlain (understood our_schema sql) → IsSure sql params → FailsToQuery sql params old new e → IsOfStore old new e
+sure_fails sql params old new e = sure_fails_in our_schema sql params old new e
 
 more_faults : (a b c : ℕ) → a ≤ b → MoreFaults b c → MoreFaults a c
 more_faults a b c less more = omega (arith, less, more)
@@ -114,57 +119,85 @@ module _ {S : Type 0} (g : store.Ghosts S) (sql : List ℕ) (params : Row) (plai
       let one = subst (OneOn g sql params Q first now) (sym is) (far.2 clean here).1 in
       last_has P one.1 x (shows (one.1 ++ x ∷ []) (begins_before sql params first (state g now) (one.1 ++ x ∷ []) one.0.0.now_is (given_begin g sql params now (one.1 ++ x ∷ []) one.2)))
 
+pub asked_fails_in : {X : Type 0} (under : Schema) (sql : List ℕ) (params : Row) (old new : State) (r : Result X Error) → IsPlain (understood under sql) → (HasCleanDisk new → IfErr r (FailsToQuery sql params old new)) → IsSureIn under sql params
+    → FailsByStoreIn under (λ _. ⊤) old new r
+asked_fails_in under sql params old new (Ok x) plain err sure = λ clean here all. tt
+asked_fails_in under sql params old new (Err e) plain err sure = λ clean here all other. sure_fails_in under sql params old new e here plain sure (err clean)
+
 pub asked_fails : {X : Type 0} (sql : List ℕ) (params : Row) (old new : State) (r : Result X Error) → IsPlain (understood our_schema sql) → (HasCleanDisk new → IfErr r (FailsToQuery sql params old new)) → IsSure sql params
     → FailsByStore (λ _. ⊤) old new r
-asked_fails sql params old new (Ok x) plain err sure = λ clean here all. tt
-asked_fails sql params old new (Err e) plain err sure = λ clean here all other. sure_fails sql params old new e here plain sure (err clean)
+asked_fails sql params old new r = asked_fails_in our_schema sql params old new r
 
 -- ---- one call after the other
 
--- looks led from the one state to the other
+-- looks led from the one state to the other, where this is known
+abbrev pub ReachesWhere : (State → Type 0) → State → State → Type 0
+ReachesWhere Known a b = Survives a b (λ _. ¬ Known a) × (HasCleanDisk b → Known a → IsTrue b.is_open × (b.now ≡ a.now) × (b.committed ≡ a.committed))
+
 abbrev pub Reaches : State → State → Type 0
-Reaches a b = Survives a b (λ _. ¬ IsPlaced a) × (HasCleanDisk b → IsPlaced a → IsTrue b.is_open × (b.now ≡ a.now) × (b.committed ≡ a.committed))
+Reaches a b = ReachesWhere IsPlaced a b
 
 -- what a look leaves, whatever it tells
+abbrev pub LookedWhere : (State → Type 0) → Type 0 → State → State → Type 0
+LookedWhere Known X a b =
+    Survives a b (λ _. ¬ Known a) × (HasCleanDisk b → IsTrue b.is_open → IsTrue a.is_open × (Known a → (b.now ≡ a.now) × (b.committed ≡ a.committed)))
+    × (HasCleanDisk b → Known a → IsTrue b.is_open × X)
+
 abbrev pub Looked : Type 0 → State → State → Type 0
-Looked X a b =
-    Survives a b (λ _. ¬ IsPlaced a) × (HasCleanDisk b → IsTrue b.is_open → IsTrue a.is_open × (IsPlaced a → (b.now ≡ a.now) × (b.committed ≡ a.committed)))
-    × (HasCleanDisk b → IsPlaced a → IsTrue b.is_open × X)
+Looked X a b = LookedWhere IsPlaced X a b
+
+pub reached_where : {X : Type 0} (Known : State → Type 0) (a b : State) → LookedWhere Known X a b → ReachesWhere Known a b
+reached_where Known a b look = (look.0, λ clean here. let now = (look.2 clean here).0 in let same = (look.1 clean now).1 here in (now, same.0, same.1))
 
 pub reached : {X : Type 0} (a b : State) → Looked X a b → Reaches a b
-reached a b look = (look.0, λ clean here. let now = (look.2 clean here).0 in let same = (look.1 clean now).1 here in (now, same.0, same.1))
+reached a b look = reached_where IsPlaced a b look
 
-placed_after : (a b : State) → IsPlaced a → b.now ≡ a.now → b.committed ≡ a.committed → IsPlaced b
-placed_after a b here now committed = record { schema = ap (λ (d : Database). d.schema) now ∙ here.schema; settled = now ∙ here.settled ∙ sym committed }
+-- it is known of what is the same
+abbrev pub StaysKnown : (State → Type 0) → Type 1
+StaysKnown Known = (a b : State) → Known a → b.now ≡ a.now → b.committed ≡ a.committed → Known b
 
-pub reached_on : {X : Type 0} (a b c : State) → Reaches a b → Looked X b c → Reaches a c
-reached_on a b c way look =
-    let between = λ (clean : HasCleanDisk c) (here : IsPlaced a). way.1 (clean_before look.0 clean) here in (
-      survives_then a b c (λ _. ¬ IsPlaced a) (λ _. ¬ IsPlaced b) (λ _. ¬ IsPlaced a) (λ _ db none. none)
-          (λ clean db none here. let it = between clean here in none (placed_after a b here it.1 it.2)) way.0 look.0,
+pub placed_after : (under : Schema) → StaysKnown (IsPlacedIn under)
+placed_after under a b here now committed = record { schema = ap (λ (d : Database). d.schema) now ∙ here.schema; settled = now ∙ here.settled ∙ sym committed }
+
+pub reached_on_where : {X : Type 0} (Known : State → Type 0) → StaysKnown Known → (a b c : State) → ReachesWhere Known a b → LookedWhere Known X b c → ReachesWhere Known a c
+reached_on_where Known stays a b c way look =
+    let between = λ (clean : HasCleanDisk c) (here : Known a). way.1 (clean_before look.0 clean) here in (
+      survives_then a b c (λ _. ¬ Known a) (λ _. ¬ Known b) (λ _. ¬ Known a) (λ _ db none. none)
+          (λ clean db none here. let it = between clean here in none (stays a b here it.1 it.2)) way.0 look.0,
       λ clean here.
           let it = between clean here in
-          let placed = placed_after a b here it.1 it.2 in
-          let now = (look.2 clean placed).0 in
-          let same = (look.1 clean now).1 placed in
+          let known = stays a b here it.1 it.2 in
+          let now = (look.2 clean known).0 in
+          let same = (look.1 clean now).1 known in
           (now, same.0 ∙ it.1, same.1 ∙ it.2),
     )
+
+pub reached_on : {X : Type 0} (a b c : State) → Reaches a b → Looked X b c → Reaches a c
+reached_on a b c way look = reached_on_where IsPlaced (placed_after our_schema) a b c way look
 
 told_since : {Y : Type 0} (a b c : State) (P : Trees → Type 0) (r : Result Y Error) → Survives a b P → IsTrue b.is_open → IfErr r (λ e. e ≢ SqliteFailure code.OutOfMemory → IsOfStore b c e)
     → IfErr r (λ e. e ≢ SqliteFailure code.OutOfMemory → IsOfStore a c e)
 told_since a b c P (Ok y) survives now h = tt
 told_since a b c P (Err e) survives now h = λ other. since_first a b c P e survives now (h other)
 
-pub fails_on : {Y : Type 0} (a b c : State) (After First Rows : Trees → Type 0) (r : Result Y Error) → Reaches a b → Survives b c After → ((t : Trees) → First t → Rows t) → FailsByStore Rows b c r → FailsByStore First a c r
-fails_on a b c After First Rows r way survives given fails = λ clean here rows.
+pub fails_on_where : {Y : Type 0} (Known : State → Type 0) → StaysKnown Known → (a b c : State) (After First Rows : Trees → Type 0) (r : Result Y Error) → ReachesWhere Known a b → Survives b c After → ((t : Trees) → First t → Rows t)
+    → FailsByStoreWhere Known Rows b c r → FailsByStoreWhere Known First a c r
+fails_on_where Known stays a b c After First Rows r way survives given fails = λ clean here rows.
     let it = way.1 (clean_before survives clean) here in
-    told_since a b c _ r way.0 it.0 (fails clean (placed_after a b here it.1 it.2) (subst Rows (sym (ap (λ (d : Database). d.trees) it.1)) (given a.now.trees rows)))
+    told_since a b c _ r way.0 it.0 (fails clean (stays a b here it.1 it.2) (subst Rows (sym (ap (λ (d : Database). d.trees) it.1)) (given a.now.trees rows)))
+
+pub fails_on : {Y : Type 0} (a b c : State) (After First Rows : Trees → Type 0) (r : Result Y Error) → Reaches a b → Survives b c After → ((t : Trees) → First t → Rows t) → FailsByStore Rows b c r → FailsByStore First a c r
+fails_on a b c After First Rows r = fails_on_where IsPlaced (placed_after our_schema) a b c After First Rows r
 
 -- what is made of an answer refuses no rows like these
+pub made_fails_where : {X Y : Type 0} (Known : State → Type 0) (a b : State) (x : X) (P : X → Type 0) (Rows : Trees → Type 0) (r : Result Y Error) → ReadsWhere Known a b (Ok x) P
+    → (Rows a.now.trees → P x → IfErr r (λ e. e ≢ SqliteFailure code.OutOfMemory → ⊥)) → FailsByStoreWhere Known Rows a b r
+made_fails_where Known a b x P Rows (Ok y) look never = λ clean here rows. tt
+made_fails_where Known a b x P Rows (Err e) look never = λ clean here rows other. absurd (never rows (look.2 clean here).1 other)
+
 pub made_fails : {X Y : Type 0} (a b : State) (x : X) (P : X → Type 0) (Rows : Trees → Type 0) (r : Result Y Error) → Looks a b (Ok x) P
     → (Rows a.now.trees → P x → IfErr r (λ e. e ≢ SqliteFailure code.OutOfMemory → ⊥)) → FailsByStore Rows a b r
-made_fails a b x P Rows (Ok y) look never = λ clean here rows. tt
-made_fails a b x P Rows (Err e) look never = λ clean here rows other. absurd (never rows (look.2 clean here).1 other)
+made_fails a b x P Rows r = made_fails_where IsPlaced a b x P Rows r
 
 -- ---- what is made of rows
 
@@ -186,15 +219,50 @@ all_shown P Q show stored shown way same all =
     let mapped = all_mapped P Q show stored way all in
     All-from_recursion P shown (all_from P shown (λ r here. all_has P (map show stored) r mapped (has_moved shown (map show stored) (IsPermutation-sym _ _ same) r here)))
 
+-- rows of which there is one at most
+pub not_one : {X R K : Type 0} (f : Form R K) (trees : Trees) (shown : List Row) (r : Result X Error) → ((row : Row) → IsStoredAs f row → IsShownAs f (columns_from 1 (length f.table.columns) row))
+    → IsPermutation (map (columns_from 1 (length f.table.columns)) (trees f.table.tree)) shown → IfErr r (λ _. length shown ≤ 1 → ¬ All (IsShownAs f) shown)
+    → AreStoredAs f trees × (length (trees f.table.tree) ≤ 1) → IfErr r (λ e. e ≢ SqliteFailure code.OutOfMemory → ⊥)
+not_one f trees shown (Ok x) way same refused rows = tt
+not_one f trees shown (Err e) way same refused rows = λ other.
+    let show = columns_from 1 (length f.table.columns) in
+    let stored = trees f.table.tree in
+    let many = length_permutation (map show stored) shown same in
+    let as_many = length-map stored show in
+    let few = rows.1 in
+    refused (omega (arith, many, as_many, few)) (all_shown (IsShownAs f) (IsStoredAs f) show stored shown way same rows.0)
+
 pub not_meta : {X : Type 0} (trees : Trees) (shown : List Row) (r : Result X Error) → IsPermutation (map (columns_from 1 7) (trees 0)) shown → IfErr r (λ _. length shown ≤ 1 → ¬ All (IsShownAs meta_form) shown)
     → AreStoredAs meta_form trees × (length (trees 0) ≤ 1) → IfErr r (λ e. e ≢ SqliteFailure code.OutOfMemory → ⊥)
-not_meta trees shown (Ok x) same refused rows = tt
-not_meta trees shown (Err e) same refused rows = λ other.
-    let many = length_permutation (map (columns_from 1 7) (trees 0)) shown same in
-    let stored = length-map (trees 0) (columns_from 1 7) in
-    let few = rows.1 in
-    refused (omega (arith, many, stored, few)) (all_shown (IsShownAs meta_form) (IsStoredAs meta_form) (columns_from 1 7) (trees 0) shown (λ r is. is) same rows.0)
+not_meta trees shown r = not_one meta_form trees shown r (λ row is. is)
 
 pub not_shown : {X : Type 0} (P : Row → Type 0) (shown : List Row) (r : Result X Error) → IfErr r (λ e. e ≢ SqliteFailure code.OutOfMemory → ¬ All P shown) → All P shown → IfErr r (λ e. e ≢ SqliteFailure code.OutOfMemory → ⊥)
 not_shown P shown (Ok x) refused all = tt
 not_shown P shown (Err e) refused all = λ other. refused other all
+
+-- rows that are shown of a table whose rows are its own, and what reads them
+pub shown_fails : {R K Y : Type 0} (f : Form R K) (a b : State) (rows : Vec Row Global) (r : Result Y Error) → ShowsRows f a b (Ok rows) → IfErr r (λ e. e ≢ SqliteFailure code.OutOfMemory → ¬ All (IsShownAs f) rows.items)
+    → FailsByStore (AreStoredAs f) a b r
+shown_fails f a b rows (Ok y) shown refused = λ clean here stored. tt
+shown_fails f a b rows (Err e) shown refused = λ clean here stored other. absurd (refused other (shown clean here stored))
+
+-- the first of the rows of `meta`, if there is one and no other
+pub not_first_meta : {X : Type 0} (schema : ℕ) (Q : Row → Type 0) → ((r : Row) → Q r → are_meta_cells schema (columns_from 1 7 r) ≡ true) → (stored shown : List Row) (r : Result X Error) → IsPermutation (map (columns_from 1 7) stored) shown
+    → IfErr r (λ _. (row : Row) → first_of shown ≡ Some row → are_meta_cells schema row ≡ false) → AllByRecursion Q stored × (length stored ≡ 1) → IfErr r (λ e. e ≢ SqliteFailure code.OutOfMemory → ⊥)
+not_first_meta schema Q way stored shown (Ok x) same refused rows = tt
+not_first_meta schema Q way stored shown (Err e) same refused rows = λ other. first shown same refused
+  where
+    Passes : Row → Type 0
+    Passes r = are_meta_cells schema r ≡ true
+
+    first : (shown : List Row) → IsPermutation (map (columns_from 1 7) stored) shown → ((row : Row) → first_of shown ≡ Some row → are_meta_cells schema row ≡ false) → ⊥
+    first [] same refused =
+        let none = length_permutation (map (columns_from 1 7) stored) [] same in
+        let many = length-map stored (columns_from 1 7) in
+        let one = rows.1 in
+        absurd (omega (arith, none, many, one))
+    first (r ∷ more) same refused =
+        let all = all_mapped Passes Q (columns_from 1 7) stored way rows.0 in
+        let passes = all_has Passes (map (columns_from 1 7) stored) r all (has_moved (r ∷ more) (map (columns_from 1 7) stored) (IsPermutation-sym _ _ same) r (inl refl)) in
+        let fails = refused r refl in
+        absurd (let never : true ≡ false = sym passes ∙ fails in cc)

@@ -16,9 +16,9 @@ pub mod QueryLemmas
 pub mod StreamedRows
 pub mod CauseLemmas
 pub mod SureTexts
+pub mod AskedTexts
 pub mod FirstLemmas
-pub mod AskedLemmas
-pub mod AddedRows
 pub mod SelectLemmas
 pub mod SortLemmas
 pub mod FoundLemmas
+pub mod HeldRows

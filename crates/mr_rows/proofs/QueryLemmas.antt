@@ -1,5 +1,6 @@
 -- A query that is read leaves all as it was.
 use Rattle.std.proofs.Common.{◌≡◌, ◌⊎◌, inl, inr, ℕ, List, Ok, Err, Option, None, Some, Result, IfOk, IfErr, OnOk, IsTrue, refl, sym, ap, subst, ◌∙◌, arith}
+use Rattle.std.specs.Prelude.{⊤}
 use Rattle.sqlite_value.specs.Order.{Row}
 use Rattle.sqlite_trees.specs.Tree.{Trees}
 use Rattle.sqlite.specs.declared.error.Error.{Error}
@@ -92,6 +93,10 @@ module _ (sql : List ℕ) (params : Row) (old new : State) (plain : IsPlain (und
 pub told_so : {X : Type 0} (r : Result X Error) (P Q : X → Type 0) → ((x : X) → P x → Q x) → IfOk r P → IfOk r Q
 told_so (Ok x) P Q way h = way x h
 told_so (Err e) P Q way h = tt
+
+pub any_told : {X : Type 0} (r : Result X Error) → IfOk r (λ _. ⊤)
+any_told (Ok x) = tt
+any_told (Err e) = tt
 
 pub told_two : {X : Type 0} (r : Result X Error) (P Q R : X → Type 0) → ((x : X) → P x → Q x → R x) → IfOk r P → IfOk r Q → IfOk r R
 told_two (Ok x) P Q R way h k = way x h k

@@ -1,11 +1,9 @@
 -- What the rows are that each query shows.
-use Rattle.std.proofs.Common.{◌≡◌, ℕ, pos, ◌==◌, List, [], ◌∷◌, map, filter, true, refl, ap, subst, ◌∙◌, arith}
+use Rattle.std.proofs.Common.{◌≡◌, ℕ, pos, List, [], ◌∷◌, map, filter, true, refl, ap, subst, ◌∙◌}
 use Rattle.std.specs.List.Sorted.{IsPermutation}
-use Rattle.sqlite_value.specs.declared.value.Value.{Value}
 use Rattle.sqlite_value.specs.declared.value.Value.TheVariants.{Null, Int, Text}
 use Rattle.sqlite_value.specs.Order.{Row}
-use Rattle.sqlite_trees.specs.Tree.{Trees, rowid}
-use Rattle.sqlite_rules.specs.Edit.{id_in}
+use Rattle.sqlite_trees.specs.Tree.{Trees}
 use Rattle.sqlite_sql.specs.Term.{Term, eval_all}
 use Rattle.sqlite_sql.specs.Program.{overlay}
 use Rattle.sqlite_schema.specs.declared.program.Program.{Program}
@@ -16,10 +14,9 @@ use Rattle.sqlite.proofs.Callers.{reads_as}
 use Rattle.mr_model.specs.Texts as texts
 use Rattle.mr_model.specs.Writes.{Id}
 use Rattle.mr_model.specs.Replica.{is_among}
-use Rattle.mr_model.specs.Scopes.{is_tentative}
-use Rattle.mr_model.specs.Tables.{ActionCells, OfMeeting, OfCancel, LogRow, BookingRow, ErrorRow, CancelledRow, CancelRow}
-use Rattle.mr_model.specs.Queries.{booking_id, error_id, cancelled_id, cancel_id, log_id}
-use Rattle.mr_rows.specs.RowQuestions.{is_booking_asked, is_error_asked, is_cancelled_asked, is_cancel_asked, row_stamp, stamp_of_row}
+use Rattle.mr_model.specs.Tables.{BookingRow, ErrorRow, CancelledRow, CancelRow}
+use Rattle.mr_model.specs.Queries.{booking_id, error_id, cancelled_id, cancel_id}
+use Rattle.mr_rows.specs.RowQuestions.{is_booking_asked, is_error_asked, is_cancelled_asked, is_cancel_asked}
 use Rattle.mr_rows.specs.Meaning.{passes}
 use Rattle.mr_rows.specs.RowCells.{meta_in, room_in, vector_in, log_in, booking_row_from, error_in, cancelled_in, cancel_row_from}
 use Rattle.mr_rows.specs.Schema.{our_schema}
@@ -27,11 +24,11 @@ use Rattle.mr_rows.specs.Shown.{columns_from}
 use Rattle.mr_rows.specs.Form.{Form, meta_form, room_form, vector_form, log_form, booking_form, error_form, cancelled_form, cancel_form}
 use Rattle.mr_rows.specs.Database.{IsOurs, IsRowOf, IsHeld, in_order, tables_in}
 use Rattle.mr_rows.specs.Reads.{metas_in}
-use Rattle.mr_rows.proofs.StatementMeaning.{MeansQuery, MeansQueryIn, program_of, all_meta_text, all_meta_is, meta_columns, meta_names, all_room_text, all_room_is, room_columns, room_names, all_vector_text, all_vector_is, vector_columns, vector_names, all_booking_text, all_booking_is, booking_columns, booking_names, all_error_text, all_error_is, error_columns, error_names, all_log_text, all_log_is, log_columns, log_names, all_cancelled_text, all_cancelled_is, cancelled_columns, cancelled_names, all_cancel_text, all_cancel_is, cancel_columns, cancel_names, key_log_text, key_log_is, log_key_tests, between_log_text, between_log_is, log_seq_tests, room_booking_text, room_booking_is, booking_room_tests, key_booking_text, key_booking_is, booking_key_tests, room_error_text, room_error_is, error_room_tests, key_error_text, key_error_is, error_key_tests, room_cancelled_text, room_cancelled_is, cancelled_room_tests, key_cancelled_text, key_cancelled_is, cancelled_key_tests, room_cancel_text, room_cancel_is, cancel_room_tests, key_cancel_text, key_cancel_is, cancel_key_tests, write_log_text, write_log_is, undo_text, undo_is, server_columns, server_names}
-use Rattle.mr_rows.proofs.ValueLemmas.{equal_text, and_true, id_test, between_test}
+use Rattle.mr_rows.proofs.StatementMeaning.{MeansQuery, MeansQueryIn, program_of, all_meta_text, all_meta_is, meta_columns, meta_names, all_room_text, all_room_is, room_columns, room_names, all_vector_text, all_vector_is, vector_columns, vector_names, all_booking_text, all_booking_is, booking_columns, booking_names, all_error_text, all_error_is, error_columns, error_names, all_log_text, all_log_is, log_columns, log_names, all_cancelled_text, all_cancelled_is, cancelled_columns, cancelled_names, all_cancel_text, all_cancel_is, cancel_columns, cancel_names, room_booking_text, room_booking_is, booking_room_tests, key_booking_text, key_booking_is, booking_key_tests, room_error_text, room_error_is, error_room_tests, key_error_text, key_error_is, error_key_tests, room_cancelled_text, room_cancelled_is, cancelled_room_tests, key_cancelled_text, key_cancelled_is, cancelled_key_tests, room_cancel_text, room_cancel_is, cancel_room_tests, key_cancel_text, key_cancel_is, cancel_key_tests, write_log_text, write_log_is, undo_text, undo_is, server_columns, server_names}
+use Rattle.mr_rows.proofs.ValueLemmas.{equal_text, and_true, id_test}
 use Rattle.mr_rows.proofs.RowLemmas.{filter_all_true}
 use Rattle.mr_rows.proofs.FormLemmas.{shows}
-use Rattle.mr_rows.proofs.TableLemmas.{Facts, finds_as, finds_rows}
+use Rattle.mr_rows.proofs.TableLemmas.{Facts, finds_rows}
 use Rattle.mr_rows.proofs.TableFacts.{meta_facts, room_facts, vector_facts, log_facts, booking_facts, error_facts, cancelled_facts, cancel_facts}
 
 -- a query without tests shows the table
@@ -73,39 +70,6 @@ shows_all_cancelled old new rows ours = shows_all cancelled_form cancelled_facts
 pub shows_all_cancel : (old new : State) (rows : List Row) → IsOurs old.now → Shown all_cancel_text [] old new rows → IsPermutation ((tables_in old.now.trees).cancels) (map (λ r. cancel_row_from (Null ∷ r)) rows)
 unfolding tables_in
 shows_all_cancel old new rows ours = shows_all cancel_form cancel_facts all_cancel_text cancel_columns cancel_names old new rows all_cancel_is (λ r is. refl) ours.schema ours.held.cancels
-
-pub shows_key_log : (id : Id) (old new : State) (rows : List Row) → IsOurs old.now → Shown key_log_text (Int (pos id.server) ∷ Int (pos id.n) ∷ []) old new rows
-    → IsPermutation (filter (λ (r : LogRow). is_among (log_id r) (id ∷ [])) (tables_in old.now.trees).log) (map (λ r. log_in (Null ∷ r)) rows)
-unfolding tables_in
-shows_key_log id old new rows ours shown =
-    finds_rows log_form log_facts key_log_text log_key_tests log_columns log_names (Int (pos id.server) ∷ Int (pos id.n) ∷ []) old new (λ r. is_among (log_id r) (id ∷ [])) rows key_log_is
-    (λ r is. ap (passes log_key_tests (Int (pos id.server) ∷ Int (pos id.n) ∷ [])) is ∙ id_test (log_in r).server (log_in r).n id) (λ r is. refl) ours.schema ours.held.log shown
-
--- the numbers of rows of the log, which stand behind their actions
-log_within : (low high : ℕ) (v : Value) (w : LogRow) → passes log_seq_tests (Int (pos low) ∷ Int (pos high) ∷ []) (v ∷ log_form.cells w) ≡ texts.within low high w.seq
-log_within low high v w = go w.action
-  where
-    go : (a : ActionCells) → let x : LogRow = record w { action = a } in passes log_seq_tests (Int (pos low) ∷ Int (pos high) ∷ []) (v ∷ log_form.cells x) ≡ texts.within low high w.seq
-    go (OfMeeting m) = between_test low high w.seq
-    go (OfCancel t) = between_test low high w.seq
-
-pub shows_between_log : (low high : ℕ) (old new : State) (rows : List Row) → IsOurs old.now → Shown between_log_text (Int (pos low) ∷ Int (pos high) ∷ []) old new rows
-    → IsPermutation (filter (λ (r : LogRow). texts.within low high r.seq) (tables_in old.now.trees).log) (map (λ r. log_in (Null ∷ r)) rows)
-unfolding tables_in
-shows_between_log low high old new rows ours shown =
-    finds_rows log_form log_facts between_log_text log_seq_tests log_columns log_names (Int (pos low) ∷ Int (pos high) ∷ []) old new (λ r. texts.within low high r.seq) rows between_log_is
-    (λ r is. ap (passes log_seq_tests (Int (pos low) ∷ Int (pos high) ∷ [])) is ∙ log_within low high (Int (id_in (rowid r))) (log_in r)) (λ r is. refl) ours.schema ours.held.log shown
-
--- the stamps of those that have no number
-tentative_within : (n : ℕ) → texts.within 0 0 n ≡ (n == 0)
-tentative_within n = grind (arith)
-
-pub shows_log_stamps : (old new : State) (rows : List Row) → IsOurs old.now → Shown between_log_text (Int (pos 0) ∷ Int (pos 0) ∷ []) old new rows
-    → IsPermutation (map stamp_of_row (filter is_tentative (tables_in old.now.trees).log)) (map (λ r. row_stamp (Null ∷ r)) rows)
-unfolding tables_in
-shows_log_stamps old new rows ours shown =
-    finds_as log_form log_facts (λ r. row_stamp (Null ∷ r)) stamp_of_row between_log_text log_seq_tests log_columns log_names (Int (pos 0) ∷ Int (pos 0) ∷ []) old new is_tentative rows between_log_is
-    (λ r is. ap (passes log_seq_tests (Int (pos 0) ∷ Int (pos 0) ∷ [])) is ∙ log_within 0 0 (Int (id_in (rowid r))) (log_in r) ∙ tentative_within (log_in r).seq) (λ r is. refl) ours.schema ours.held.log shown
 
 pub shows_room_booking : (room : texts.Text) (old new : State) (rows : List Row) → IsOurs old.now → Shown room_booking_text (Text room ∷ []) old new rows
     → IsPermutation (filter (is_booking_asked room) (tables_in old.now.trees).booking) (map (λ r. booking_row_from (Null ∷ r)) rows)

@@ -3,7 +3,7 @@ use Rattle.std.proofs.Common.{◌≡◌, ℕ, List, [], ◌∷◌, codes, false,
 use Rattle.sqlite_value.specs.declared.value.Value.TheVariants.{Null}
 use Rattle.sqlite_sql.specs.Term.{Term, lit, col, op2}
 use Rattle.sqlite_sql.specs.declared.ops.BinaryOp.TheVariants.{Compare}
-use Rattle.sqlite_sql.specs.declared.ops.CompareOp.TheVariants.{Eq, Le, Ge}
+use Rattle.sqlite_sql.specs.declared.ops.CompareOp.TheVariants.{Eq}
 use Rattle.sqlite_tied.specs.Compute.{everything}
 use Rattle.sqlite_schema.specs.declared.command.Command.{Command}
 use Rattle.sqlite_schema.specs.declared.command.Conflict.TheVariants.{Replace}
@@ -38,12 +38,6 @@ program_of tree tests project = record { lets = []; body = query_of tree tests p
 
 abbrev pub same : Term → Term → Term
 same a b = op2 (Compare Eq Binary) a b
-
-abbrev pub at_least : Term → Term → Term
-at_least a b = op2 (Compare Ge Binary) a b
-
-abbrev pub at_most : Term → Term → Term
-at_most a b = op2 (Compare Le Binary) a b
 
 -- ---- meta
 
@@ -289,23 +283,6 @@ all_log_text = codes "SELECT server, n, tm, room, kind, length, choices, title, 
 pub all_log_is : MeansQuery all_log_text (Select (program_of 14 [] log_columns) log_names)
 unfolding understood everything
 all_log_is = ((refl, (refl, refl)), refl)
-
-abbrev pub key_log_text : List ℕ
-key_log_text = codes "SELECT server, n, tm, room, kind, length, choices, title, tserver, tn, place, seq FROM log WHERE server = ?1 AND n = ?2"
-
-pub key_log_is : MeansQuery key_log_text (Select (program_of 14 log_key_tests log_columns) log_names)
-unfolding understood everything
-key_log_is = ((refl, (refl, refl)), refl)
-
-abbrev pub log_seq_tests : List Term
-log_seq_tests = at_least (col 1 12) (col 0 0) ∷ at_most (col 1 12) (col 0 1) ∷ []
-
-abbrev pub between_log_text : List ℕ
-between_log_text = codes "SELECT server, n, tm, room, kind, length, choices, title, tserver, tn, place, seq FROM log WHERE seq >= ?1 AND seq <= ?2"
-
-pub between_log_is : MeansQuery between_log_text (Select (program_of 14 log_seq_tests log_columns) log_names)
-unfolding understood everything
-between_log_is = ((refl, (refl, refl)), refl)
 
 -- ---- cancelled
 

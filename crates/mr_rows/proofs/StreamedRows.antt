@@ -1,7 +1,6 @@
 -- A plain query whose rows come one after the other.
-use Rattle.std.proofs.Common.{◌≡◌, ◌⊎◌, inl, inr, ℕ, List, [], ◌∷◌, ◌++◌, map, filter, Bool, Option, None, Some, Result, Ok, Err, OnOk, OnErr, IfErr, IsTrue, sym, ap, subst, ◌∙◌}
+use Rattle.std.proofs.Common.{◌≡◌, ◌⊎◌, inl, inr, ℕ, List, [], ◌∷◌, ◌++◌, map, Bool, Option, None, Some, Result, Ok, Err, OnOk, OnErr, IfErr, IsTrue, sym, ap, subst, ◌∙◌}
 use Rattle.std.proofs.lemmas.List.{append_assoc, map-append}
-use Rattle.std.proofs.lemmas.List.Elements.{filter-append}
 use Rattle.std.specs.List.{AllByRecursion}
 use Rattle.sqlite_value.specs.declared.value.Value.TheVariants.{Null}
 use Rattle.sqlite_value.specs.Order.{Row}
@@ -40,15 +39,6 @@ shown_from sql params a b c rows plain same h =
 pub all_more : (P : Row → Type 0) (rows : List Row) (row : Row) → P row → AllByRecursion P rows → AllByRecursion P (rows ++ row ∷ [])
 all_more P [] row here all = (here, tt)
 all_more P (r ∷ rows) row here all = (all.0, all_more P rows row here all.1)
-
--- the rows are read, and those that pass are put behind the first ones
-abbrev pub AreAdded : {R : Type 0} → (Row → R) → (R → Bool) → List R → List R → List Row → Type 0
-AreAdded f p first now rows = now ≡ first ++ filter p (map f rows)
-
-pub read_more : {R : Type 0} (f : Row → R) (p : R → Bool) (first old new : List R) (rows : List Row) (row : Row) → new ≡ old ++ filter p (f row ∷ []) → AreAdded f p first old rows → AreAdded f p first new (rows ++ row ∷ [])
-read_more f p first old new rows row more far =
-    more ∙ (λ i. far i ++ filter p (f row ∷ [])) ∙ append_assoc first (filter p (map f rows)) (filter p (f row ∷ []))
-    ∙ ap (λ xs. first ++ xs) (sym (filter-append p (map f rows) (f row ∷ [])) ∙ ap (filter p) (sym (map-append f rows (row ∷ []))))
 
 -- the rows are read, and what is made of each is put behind the first ones
 abbrev pub AreMade : {X : Type 0} → (Row → X) → List X → List X → List Row → Type 0

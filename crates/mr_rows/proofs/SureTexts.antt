@@ -13,6 +13,7 @@ use Rattle.sqlite_sql.proofs.QueryLemmas.{no_fold_overflows}
 use Rattle.sqlite_rules.proofs.ListLemmas.{all_has, all_from}
 use Rattle.sqlite_typing.specs.Types.{accepts_program}
 use Rattle.sqlite_tied.specs.Compute.{everything}
+use Rattle.sqlite_schema.specs.declared.schema.Schema.{Schema}
 use Rattle.sqlite_resolve.specs.declared.compiled.Compiled.{Compiled}
 use Rattle.sqlite_resolve.specs.declared.error.CompileError.{CompileError}
 use Rattle.sqlite.specs.declared.error.Error.{Error}
@@ -25,8 +26,8 @@ use Rattle.mr_rows.specs.Meaning.{query_of}
 use Rattle.mr_rows.specs.Schema.{our_schema}
 use Rattle.mr_rows.specs.Form.{Form, room_form, vector_form, log_form, booking_form, error_form, cancelled_form, cancel_form}
 use Rattle.mr_rows.specs.Shown.{IsShownAs, IsStoredAs, AreStoredAs}
-use Rattle.mr_rows.specs.Causes.{IsStopped, IsSureUnder, IsSure, ShowsOnly}
-use Rattle.mr_rows.proofs.StatementMeaning.{MeansQuery, program_of, all_meta_text, all_meta_is, meta_columns, meta_names, all_room_text, all_room_is, room_columns, room_names, all_vector_text, all_vector_is, vector_columns, vector_names, all_booking_text, all_booking_is, booking_columns, booking_names, all_error_text, all_error_is, error_columns, error_names, all_log_text, all_log_is, log_columns, log_names, all_cancelled_text, all_cancelled_is, cancelled_columns, cancelled_names, all_cancel_text, all_cancel_is, cancel_columns, cancel_names, write_log_text, write_log_is, undo_text, undo_is, server_columns, server_names}
+use Rattle.mr_rows.specs.Causes.{IsStopped, IsSureUnder, IsSureIn, IsSure, ShowsOnly}
+use Rattle.mr_rows.proofs.StatementMeaning.{MeansQueryIn, MeansQuery, program_of, all_meta_text, all_meta_is, meta_columns, meta_names, all_room_text, all_room_is, room_columns, room_names, all_vector_text, all_vector_is, vector_columns, vector_names, all_booking_text, all_booking_is, booking_columns, booking_names, all_error_text, all_error_is, error_columns, error_names, all_log_text, all_log_is, log_columns, log_names, all_cancelled_text, all_cancelled_is, cancelled_columns, cancelled_names, all_cancel_text, all_cancel_is, cancel_columns, cancel_names, write_log_text, write_log_is, undo_text, undo_is, server_columns, server_names}
 use Rattle.mr_rows.proofs.FormLemmas.{shows, has_moved}
 use Rattle.mr_rows.proofs.CauseLemmas.{all_mapped}
 use Rattle.mr_rows.proofs.RowLemmas.{filter_all_true}
@@ -34,25 +35,29 @@ use Rattle.mr_rows.proofs.TableLemmas.{Facts}
 use Rattle.mr_rows.proofs.TableFacts.{room_facts, vector_facts, log_facts, booking_facts, error_facts, cancelled_facts, cancel_facts}
 
 -- the text is one statement, of so many parameters
-abbrev is_whole : List ℕ → ℕ → Result Compiled CompileError → Bool
+abbrev pub is_whole : List ℕ → ℕ → Result Compiled CompileError → Bool
 is_whole text count (Ok c) = nat_le (length text) c.tail && (count == length c.names)
 is_whole text count (Err e) = false
 
-sure_text : (text : List ℕ) (params : Row) (tree : ℕ) (tests project : List Term) (names : List (List ℕ)) → MeansQuery text (Select (program_of tree tests project) names)
-    → is_whole text (length params) (understood our_schema text) ≡ true → accepts_program our_schema [] (query_of tree tests project) params ≡ true → IsSure text params
-sure_text text params tree tests project names means whole accepts = (means.1, given (understood our_schema text) means.0.0 whole)
+pub sure_text_in : (under : Schema) (text : List ℕ) (params : Row) (tree : ℕ) (tests project : List Term) (names : List (List ℕ)) → MeansQueryIn under text (Select (program_of tree tests project) names)
+    → is_whole text (length params) (understood under text) ≡ true → accepts_program under [] (query_of tree tests project) params ≡ true → IsSureIn under text params
+sure_text_in under text params tree tests project names means whole accepts = (means.1, given (understood under text) means.0.0 whole)
   where
-    only_stopped : (limit : Option ℕ) (db : Database) (e : Error) → db.schema ≡ our_schema → RefusesQuery limit db (program_of tree tests project) params e → IsStopped limit e
-    only_stopped limit db e ours (inl mistyped) =
-        absurd (let never : false ≡ true = sym (subst (λ s. accepts_program s [] (query_of tree tests project) params ≡ false) ours mistyped.1) ∙ accepts in cc)
-    only_stopped limit db e ours (inr (inl over)) = absurd (elim over.1 [ inl never ↦ never | inr folds ↦ no_fold_overflows (overlay db.trees []) (query_of tree tests project).from (params ∷ []) refl folds ])
-    only_stopped limit db e ours (inr (inr stopped)) = stopped
+    only_stopped : (limit : Option ℕ) (db : Database) (e : Error) → db.schema ≡ under → RefusesQuery limit db (program_of tree tests project) params e → IsStopped limit e
+    only_stopped limit db e here (inl mistyped) =
+        absurd (let never : false ≡ true = sym (subst (λ s. accepts_program s [] (query_of tree tests project) params ≡ false) here mistyped.1) ∙ accepts in cc)
+    only_stopped limit db e here (inr (inl over)) = absurd (elim over.1 [ inl never ↦ never | inr folds ↦ no_fold_overflows (overlay db.trees []) (query_of tree tests project).from (params ∷ []) refl folds ])
+    only_stopped limit db e here (inr (inr stopped)) = stopped
 
-    given : (r : Result Compiled CompileError) → command_of r ≡ Select (program_of tree tests project) names → is_whole text (length params) r ≡ true → IsSureUnder our_schema text params r
+    given : (r : Result Compiled CompileError) → command_of r ≡ Select (program_of tree tests project) names → is_whole text (length params) r ≡ true → IsSureUnder under text params r
     given (Ok c) is fits =
         let parts = and_parts (nat_le (length text) c.tail) (length params == length c.names) fits in
-        (leb-true (length text) c.tail parts.0, eqb-true (length params) (length c.names) parts.1, λ limit db e ours refuses. only_stopped limit db e ours (subst (λ k. RefusesToRead limit k db params e) is refuses))
+        (leb-true (length text) c.tail parts.0, eqb-true (length params) (length c.names) parts.1, λ limit db e here refuses. only_stopped limit db e here (subst (λ k. RefusesToRead limit k db params e) is refuses))
     given (Err e) is fits = absurd (let never : false ≡ true = fits in cc)
+
+pub sure_text : (text : List ℕ) (params : Row) (tree : ℕ) (tests project : List Term) (names : List (List ℕ)) → MeansQuery text (Select (program_of tree tests project) names)
+    → is_whole text (length params) (understood our_schema text) ≡ true → accepts_program our_schema [] (query_of tree tests project) params ≡ true → IsSure text params
+sure_text text params tree tests project names means whole accepts = sure_text_in our_schema text params tree tests project names means whole accepts
 
 -- ---- each text
 

@@ -2,20 +2,17 @@
 use Rattle.std.proofs.Common.{◌≡◌, ℕ, ℤ, pos, List, [], ◌∷◌, Bool, true, false, ◌&&◌, ◌||◌, ◌==◌, cond, if◌then◌else◌, Some, refl, sym, ap, ◌∙◌, arith, Less, eqb-true, eq-eqb}
 use Rattle.std.proofs.lemmas.Map.Text.{is_eq-slice_cmp}
 use Rattle.std.proofs.lemmas.Bool.{and_parts, and_from}
-use Rattle.std.specs.Prelude.{bytes_eq, nat_le}
-use Rattle.std.specs.Ordering.{is_eq, is_le, is_ge, int_cmp}
+use Rattle.std.specs.Prelude.{bytes_eq}
+use Rattle.std.specs.Ordering.{is_eq, int_cmp}
 use Rattle.sqlite_value.specs.declared.value.Value.{Value}
 use Rattle.sqlite_value.specs.declared.value.Value.TheVariants.{Null, Int, Text}
 use Rattle.sqlite_value.specs.Order.{value_cmp}
 use Rattle.sqlite_value.proofs.OrderLemmas.{value_cmp-Int, value_cmp-Text}
 use Rattle.sqlite_sql.specs.Ops.{unary, binary, is_null, is_true, from_truth}
-use Rattle.sqlite_sql.specs.declared.ops.BinaryOp.TheVariants.{Compare}
-use Rattle.sqlite_sql.specs.declared.ops.CompareOp.TheVariants.{Le, Ge}
 use Rattle.sqlite_schema.specs.Rules.{equal}
 use Rattle.sqlite_rules.specs.Cast.{cast}
 use Rattle.sqlite.specs.Collation.TheVariants.{Binary}
 use Rattle.sqlite.specs.Kind.TheVariants.{Integer}
-use Rattle.mr_model.specs.Texts.{within}
 use Rattle.mr_model.specs.Writes.{Id, same_id}
 use Rattle.mr_model.specs.Replica.{is_among}
 
@@ -39,19 +36,6 @@ equal_nat a b = truth_back _ ∙ ap is_eq (value_cmp-Int (pos a) (pos b)) ∙ is
 pub equal_text : (a b : List ℕ) → equal Binary (Text a) (Text b) ≡ bytes_eq a b
 unfolding binary
 equal_text a b = truth_back _ ∙ ap is_eq (value_cmp-Text a b) ∙ is_eq-slice_cmp a b
-
--- the same of a number that is at least, or at most, another
-at_least_nat : (a b : ℕ) → is_true (binary (Compare Ge Binary) (Int (pos a)) (Int (pos b))) ≡ nat_le b a
-unfolding binary
-at_least_nat a b = truth_back _ ∙ ap is_ge (value_cmp-Int (pos a) (pos b)) ∙ grind (arith)
-
-at_most_nat : (a b : ℕ) → is_true (binary (Compare Le Binary) (Int (pos a)) (Int (pos b))) ≡ nat_le a b
-unfolding binary
-at_most_nat a b = truth_back _ ∙ ap is_le (value_cmp-Int (pos a) (pos b)) ∙ grind (arith)
-
--- the test for a number between two others
-pub between_test : (low high n : ℕ) → (is_true (binary (Compare Ge Binary) (Int (pos n)) (Int (pos low))) && (is_true (binary (Compare Le Binary) (Int (pos n)) (Int (pos high))) && true)) ≡ within low high n
-between_test low high n = rw (at_least_nat n low, at_most_nat n high, and_true (nat_le n high))
 
 never_true : (p x : Bool) → x ≡ false → is_true (if p then Null else from_truth (Some x)) ≡ false
 never_true true x gone = refl

@@ -1,9 +1,12 @@
 -- Tables whose rows are all within the limits, as those of a replica are.
-use Rattle.std.specs.Prelude.{IsTrue}
+use Rattle.std.specs.Prelude.{◌≡◌, IsTrue, length}
 use Rattle.std.specs.List.{AllByRecursion}
+use Rattle.sqlite_trees.specs.Tree.{Trees}
 use Rattle.mr_model.specs.Writes.{is_room_name}
 use Rattle.mr_model.specs.Replica.{Replica}
 use Rattle.mr_model.specs.Tables.{Tables, Stands}
+use Rattle.mr_rows.specs.Database.{AreHeld, tables_in}
+use Rattle.mr_rows.specs.Shown.{AreOurRows}
 use Rattle.mr_rows.specs.RowLimits.{is_meta_row, is_vector_row, is_log_row, is_booking_row, is_error_row, is_cancelled_row, is_cancel_row}
 
 pub record AreWithinLimits (t : Tables) : Type 0 where
@@ -18,3 +21,7 @@ pub record AreWithinLimits (t : Tables) : Type 0 where
 
 abbrev pub LimitsAreKept : Type 0
 LimitsAreKept = (t : Tables) (r : Replica) → Stands t r → AreWithinLimits t
+
+-- rows that a keeper holds for a replica can all be read, and `meta` has one
+abbrev pub HeldRowsAreOurs : Type 0
+HeldRowsAreOurs = (trees : Trees) (r : Replica) → AreHeld trees → Stands (tables_in trees) r → AreOurRows trees × (length (trees 0) ≡ 1)

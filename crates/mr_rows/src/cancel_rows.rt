@@ -9,23 +9,21 @@ ghost use Rattle.mr_rows.specs.Form.{cancelled_form, cancel_form};
 ghost use Rattle.mr_rows.specs.ChangeParts.{take_cancelled, put_cancelled, put_cancels};
 ghost use Rattle.mr_rows.specs.TakeLaws.{cancelled_none, cancelled_more};
 
-use crate::asked_rows::add_shown;
 use crate::cells::{
     has_commit, has_id, has_mark, has_name, has_time, passes, read_commit, read_id, read_mark,
     read_name, read_time,
 };
 use crate::found::take_rows;
+use crate::idle::Idle;
 use crate::numbers::Number;
-use crate::passing::PassingRow;
 use crate::puts::{day_text, parts_of, put_cancel_cells, put_cancelled_cells};
 use crate::queries::ask;
-use crate::row_tests::RowTest;
 use crate::slot_cells::{has_cancelled, read_cancelled};
 use crate::stored_rows::{FoundRow, RequestRow, StoredRow};
 use crate::table_rows::compare_ids;
 use mr_base::{RoomName, WriteId};
 use mr_tables::{CancelRow, CancelledRow};
-use sqlite::{Alter, Connection, Error, ErrorCode, Row, Transaction, params};
+use sqlite::{Alter, Error, ErrorCode, Row, Transaction, params};
 use std::alloc::Global;
 use std::cmp::Ordering;
 
@@ -63,7 +61,7 @@ impl StoredRow for CancelledRow {
 
     fn keeps_order() {}
 
-    fn select_all<S: Alter>(conn: &mut Connection<S>) -> Result<Vec<Row>, Error> {
+    fn select_all<S: Alter>(conn: &mut Idle<S>) -> Result<Vec<Row>, Error> {
         ask(conn, ALL_CANCELLED, &[])
     }
 
@@ -83,22 +81,11 @@ impl StoredRow for CancelledRow {
 
 impl FoundRow for CancelledRow {
     fn find<S: Alter>(
-        conn: &mut Connection<S>,
+        conn: &mut Idle<S>,
         alloc: Global,
         keep: bool,
     ) -> Result<Vec<CancelledRow>, Error> {
         take_rows(conn, alloc, ALL_CANCELLED, keep)
-    }
-}
-
-impl PassingRow for CancelledRow {
-    fn add_passing<T: RowTest<CancelledRow>, S: Alter>(
-        conn: &mut Connection<S>,
-        alloc: Global,
-        test: &T,
-        out: &mut Vec<CancelledRow>,
-    ) -> Result<(), Error> {
-        add_shown(conn, alloc, ALL_CANCELLED, &[], test, out)
     }
 }
 
@@ -142,7 +129,7 @@ impl StoredRow for CancelRow {
 
     fn keeps_order() {}
 
-    fn select_all<S: Alter>(conn: &mut Connection<S>) -> Result<Vec<Row>, Error> {
+    fn select_all<S: Alter>(conn: &mut Idle<S>) -> Result<Vec<Row>, Error> {
         ask(conn, ALL_CANCELS, &[])
     }
 
@@ -163,7 +150,7 @@ impl StoredRow for CancelRow {
 
 impl FoundRow for CancelRow {
     fn find<S: Alter>(
-        conn: &mut Connection<S>,
+        conn: &mut Idle<S>,
         alloc: Global,
         keep: bool,
     ) -> Result<Vec<CancelRow>, Error> {

@@ -260,14 +260,6 @@ pub(crate) fn has_id(row: &Row, at: usize) -> bool
     has_server(row, at) && has_count(row, at + 1)
 }
 
-/// The number in this column.
-pub fn read_u64(row: &Row, at: usize) -> Result<u64, Error>
-    ensures number { IfOk result (λ number. number ≡ nat_of (column row.now at)) }
-    ensures cell { IfOk result (λ number. column row.now at ≡ Int (pos number)) }
-{
-    row.get(at)
-}
-
 /// The place with this number.
 fn place_of(number: i64) -> Option<Place>
     ensures some { IfSome result (λ place. number ≡ place_number (place_seen place)) }

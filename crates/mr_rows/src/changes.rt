@@ -1,15 +1,16 @@
-ghost use Rattle.std.specs.Prelude.{◌≡◌, false, OnOk, IsTrue};
+ghost use Rattle.std.specs.Prelude.{◌≡◌, OnOk, IsTrue};
 ghost use Rattle.sqlite.specs.State.{HasCleanDisk, Survives};
 ghost use Rattle.sqlite.specs.Held.{state};
 ghost use Rattle.mr_tables.specs.Change.{changed};
 ghost use Rattle.mr_rows.specs.Database.{MakesTables, Applies, IsReached, tables_in};
 ghost use Rattle.mr_rows.specs.ChangeParts.{board_taken, rows_taken, heads_put, board_put, cancels_put, rows_put, rows_made};
 
+use crate::idle::Idle;
 use crate::puts::put_meta;
 use crate::stored_rows::{RequestRow, StoredRow};
 use mr_base::{RoomName, WriteId};
 use mr_tables::{BookingRow, CancelRow, CancelledRow, Change, ErrorRow, LogRow, VectorRow};
-use sqlite::{Alter, Connection, Error, Transaction};
+use sqlite::{Alter, Error, Transaction};
 use std::alloc::Global;
 
 fn take_all<R: RequestRow, S: Alter>(
@@ -145,19 +146,13 @@ fn make_rows<S: Alter>(
 }
 
 /// One transaction: it makes the whole change, or none of it.
-pub fn apply<S: Alter>(
-    conn: &mut Connection<S>,
-    alloc: Global,
-    change: &Change,
-) -> Result<(), Error>
-    requires autocommit { conn.old.in_transaction ≡ false }
-    ensures autocommit { conn.new.in_transaction ≡ false }
+pub fn apply<S: Alter>(conn: &mut Idle<S>, alloc: Global, change: &Change) -> Result<(), Error>
     ensures lasts { HasCleanDisk (state S.Store conn.new) → OnOk result (IsTrue (state S.Store conn.new).is_open) }
     ensures applied { Applies (state S.Store conn.old) (state S.Store conn.new) (changed change.now (tables_in (state S.Store conn.old).now.trees)) result }
     ensures survives { Survives (state S.Store conn.old) (state S.Store conn.new)
         (λ trees. IsReached (state S.Store conn.old) (changed change.now (tables_in (state S.Store conn.old).now.trees)) trees) }
 {
-    let mut tx = conn.transaction();
+    let mut tx = conn.connection.transaction();
     make_rows(&mut tx, alloc, change)?;
     put_heads(&mut tx, alloc, change)?;
     tx.commit()

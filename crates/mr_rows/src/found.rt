@@ -1,4 +1,4 @@
-ghost use Rattle.std.specs.Prelude.{◌≡◌, ◌≢◌, [], ◌∷◌, ◌++◌, ◌≤◌, false, length, map, IfOk, IfErr, OnOk, IsTrue, ⊤};
+ghost use Rattle.std.specs.Prelude.{◌≡◌, ◌≢◌, [], ◌∷◌, ◌++◌, ◌≤◌, length, map, IfOk, IfErr, OnOk, IsTrue, ⊤};
 ghost use Rattle.std.specs.List.{All};
 ghost use Rattle.sqlite_value.specs.declared.value.Value.TheVariants.{Null};
 ghost use Rattle.sqlite.specs.Given.{IsPlain};
@@ -12,6 +12,7 @@ ghost use Rattle.mr_rows.specs.Kept.{AreTaken, AreFound, AreAllFound};
 ghost use Rattle.mr_rows.specs.Reads.{Looks};
 ghost use Rattle.mr_rows.specs.Causes.{FailsByStore, IsSure, ShowsOnly};
 
+use crate::idle::Idle;
 use crate::meta_row::read_meta;
 use crate::order::sort_rows;
 use crate::queries::{select_all_meta, select_all_undo, select_all_write_log};
@@ -20,7 +21,7 @@ use mr_base::RoomName;
 use mr_tables::{
     BookingRow, CancelRow, CancelledRow, ErrorRow, LogRow, MetaRow, Tables, VectorRow,
 };
-use sqlite::{Alter, Connection, Error, ErrorCode, Row};
+use sqlite::{Alter, Error, ErrorCode, Row};
 use std::alloc::Global;
 
 // One pass over all rows of all tables tests each, so that a row that breaks the table's rules or the limits is found. They come one at a time, and
@@ -38,9 +39,7 @@ fn only_meta(rows: &[Row]) -> Result<Option<MetaRow>, Error>
     }
 }
 
-fn find_meta<S: Alter>(conn: &mut Connection<S>) -> Result<Option<MetaRow>, Error>
-    requires autocommit { conn.old.in_transaction ≡ false }
-    ensures autocommit { conn.new.in_transaction ≡ false }
+fn find_meta<S: Alter>(conn: &mut Idle<S>) -> Result<Option<MetaRow>, Error>
     ensures looks { Looks (state S.Store conn.old) (state S.Store conn.new) result
         (λ m. AreStoredAs meta_form (state S.Store conn.old).now.trees × IsMeta (state S.Store conn.old).now.trees m) }
     ensures cause { FailsByStore (λ trees. AreStoredAs meta_form trees × (length (trees 0) ≤ 1)) (state S.Store conn.old) (state S.Store conn.new) result }
@@ -69,21 +68,19 @@ fn take_row<R: StoredRow>(
 
 /// Takes the rows, one after the other, that a text shows which means a query under our schema.
 pub(crate) fn take_rows<R: StoredRow, S: Alter>(
-    conn: &mut Connection<S>,
+    conn: &mut Idle<S>,
     alloc: Global,
     sql: &str,
     keep: bool,
 ) -> Result<Vec<R>, Error>
-    requires autocommit { conn.old.in_transaction ≡ false }
     requires plain { IsPlain (understood our_schema sql.now) }
     requires sure { IsSure sql.now [] }
-    ensures autocommit { conn.new.in_transaction ≡ false }
     ensures looks { Looks (state S.Store conn.old) (state S.Store conn.new) result
         (λ out. IsShownSo (AreTaken R.form keep out.items) sql.now [] (state S.Store conn.old) (state S.Store conn.new)) }
     ensures cause { ShowsOnly (IsShownAs R.form) sql.now [] (state S.Store conn.old) → FailsByStore (λ _. ⊤) (state S.Store conn.old) (state S.Store conn.new) result }
 {
     let mut out = Vec::new(alloc);
-    let mut rows = conn.query(sql, &[])?;
+    let mut rows = conn.connection.query(sql, &[])?;
     'rows: for _ in 0..u64::MAX {
         rows.advance()?;
         match rows.get() {
@@ -97,12 +94,10 @@ pub(crate) fn take_rows<R: StoredRow, S: Alter>(
 
 /// Tests all rows of a table. Those that are kept stand in the order of their keys.
 fn find_rows<R: FoundRow, S: Alter>(
-    conn: &mut Connection<S>,
+    conn: &mut Idle<S>,
     alloc: Global,
     keep: bool,
 ) -> Result<Vec<R>, Error>
-    requires autocommit { conn.old.in_transaction ≡ false }
-    ensures autocommit { conn.new.in_transaction ≡ false }
     ensures looks { Looks (state S.Store conn.old) (state S.Store conn.new) result
         (λ rows. AreFound R.form R.rows_of keep (state S.Store conn.old).now.trees rows.items) }
     ensures cause { FailsByStore (AreStoredAs R.form) (state S.Store conn.old) (state S.Store conn.new) result }
@@ -115,12 +110,10 @@ fn find_rows<R: FoundRow, S: Alter>(
 
 // The same of two tables.
 fn find_two<A: FoundRow, B: FoundRow, S: Alter>(
-    conn: &mut Connection<S>,
+    conn: &mut Idle<S>,
     alloc: Global,
     keep: bool,
 ) -> Result<(Vec<A>, Vec<B>), Error>
-    requires autocommit { conn.old.in_transaction ≡ false }
-    ensures autocommit { conn.new.in_transaction ≡ false }
     ensures looks { Looks (state S.Store conn.old) (state S.Store conn.new) result
         (λ rows. AreFound A.form A.rows_of keep (state S.Store conn.old).now.trees rows.0.items
         × AreFound B.form B.rows_of keep (state S.Store conn.old).now.trees rows.1.items) }
@@ -142,9 +135,7 @@ fn are_none(rows: &[Row]) -> Result<(), Error>
 }
 
 // That `write_log` has no row.
-fn find_no_writes<S: Alter>(conn: &mut Connection<S>) -> Result<(), Error>
-    requires autocommit { conn.old.in_transaction ≡ false }
-    ensures autocommit { conn.new.in_transaction ≡ false }
+fn find_no_writes<S: Alter>(conn: &mut Idle<S>) -> Result<(), Error>
     ensures looks { Looks (state S.Store conn.old) (state S.Store conn.new) result (λ _. (state S.Store conn.old).now.trees 6 ≡ []) }
     ensures cause { FailsByStore (λ trees. trees 6 ≡ []) (state S.Store conn.old) (state S.Store conn.new) result }
 {
@@ -153,9 +144,7 @@ fn find_no_writes<S: Alter>(conn: &mut Connection<S>) -> Result<(), Error>
 }
 
 // That `undo` has no row.
-fn find_no_undo<S: Alter>(conn: &mut Connection<S>) -> Result<(), Error>
-    requires autocommit { conn.old.in_transaction ≡ false }
-    ensures autocommit { conn.new.in_transaction ≡ false }
+fn find_no_undo<S: Alter>(conn: &mut Idle<S>) -> Result<(), Error>
     ensures looks { Looks (state S.Store conn.old) (state S.Store conn.new) result (λ _. (state S.Store conn.old).now.trees 8 ≡ []) }
     ensures cause { FailsByStore (λ trees. trees 8 ≡ []) (state S.Store conn.old) (state S.Store conn.new) result }
 {
@@ -164,9 +153,7 @@ fn find_no_undo<S: Alter>(conn: &mut Connection<S>) -> Result<(), Error>
 }
 
 // That the logs of the first schema have no row.
-fn find_no_old_logs<S: Alter>(conn: &mut Connection<S>) -> Result<(), Error>
-    requires autocommit { conn.old.in_transaction ≡ false }
-    ensures autocommit { conn.new.in_transaction ≡ false }
+fn find_no_old_logs<S: Alter>(conn: &mut Idle<S>) -> Result<(), Error>
     ensures looks { Looks (state S.Store conn.old) (state S.Store conn.new) result
         (λ _. ((state S.Store conn.old).now.trees 6 ≡ []) × ((state S.Store conn.old).now.trees 8 ≡ [])) }
     ensures cause { FailsByStore (λ trees. (trees 6 ≡ []) × (trees 8 ≡ [])) (state S.Store conn.old) (state S.Store conn.new) result }
@@ -178,12 +165,10 @@ fn find_no_old_logs<S: Alter>(conn: &mut Connection<S>) -> Result<(), Error>
 /// Finds the row of `meta`, if there is one, and that all rows of all tables keep the tables' rules and the limits. It answers the tables
 /// that `meta` is of, with all their rows if these are to be kept, and with no others if not.
 pub fn find_all<S: Alter>(
-    conn: &mut Connection<S>,
+    conn: &mut Idle<S>,
     alloc: Global,
     keep: bool,
 ) -> Result<Option<Tables>, Error>
-    requires autocommit { conn.old.in_transaction ≡ false }
-    ensures autocommit { conn.new.in_transaction ≡ false }
     ensures looks { Looks (state S.Store conn.old) (state S.Store conn.new) result (AreAllFound keep (state S.Store conn.old).now.trees) }
     ensures cause { FailsByStore (λ trees. AreOurRows trees × (length (trees 0) ≤ 1)) (state S.Store conn.old) (state S.Store conn.new) result }
 {

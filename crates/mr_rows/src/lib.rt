@@ -3,34 +3,27 @@
 //! proved.
 #![tactic(auto)]
 
-ghost use Rattle.mr_rows.specs.TableLimits.{LimitsAreKept};
+ghost use Rattle.mr_rows.specs.TableLimits.{LimitsAreKept, HeldRowsAreOurs};
 
 mod actions;
 pub mod all_tables;
-pub mod asked_rows;
 mod cancel_rows;
 pub mod cells;
 pub mod changes;
 pub mod choices;
 pub mod found;
-mod log_stamps;
+mod idle;
 pub mod meta_row;
 pub mod numbers;
 mod order;
-mod passing;
 pub mod puts;
 pub mod queries;
-mod questions;
-mod row_tests;
 mod slot_cells;
 mod stored_rows;
 mod table_rows;
 mod whole;
 
-pub use log_stamps::{LogStamp, tentative_stamps};
-pub use passing::{LateRows, PassingRow, passing_rows, with_late_rows};
-pub use questions::{IdQuestion, NumberQuestion, RowQuestion};
-pub use row_tests::RowTest;
+pub use idle::Idle;
 pub use stored_rows::{StoredRow, read_all};
 pub use table_rows::compare_ids;
 pub use whole::all_rows;
@@ -38,4 +31,9 @@ pub use whole::all_rows;
 /// The rows of a replica's tables are within the limits for which each row is tested, so that none is refused.
 pub fn limits_law()
     ensures { LimitsAreKept }
+{}
+
+/// The rows that a keeper holds for a replica are rows as the readers want them, and `meta` has one, so that only the store makes reading them fail.
+pub fn rows_law()
+    ensures { HeldRowsAreOurs }
 {}

@@ -1,4 +1,4 @@
-ghost use Rattle.std.specs.Prelude.{◌≡◌, [], ◌∷◌, false, map, filter, ⊤};
+ghost use Rattle.std.specs.Prelude.{[], ◌∷◌, map, filter, ⊤};
 ghost use Rattle.std.specs.List.Sorted.{IsPermutation};
 ghost use Rattle.sqlite_value.specs.declared.value.Value.TheVariants.{Null};
 ghost use Rattle.sqlite.specs.Values.{bound};
@@ -6,55 +6,40 @@ ghost use Rattle.sqlite.specs.Given.{IsPlain};
 ghost use Rattle.sqlite.specs.Listing.{understood};
 ghost use Rattle.sqlite.specs.State.{Shown};
 ghost use Rattle.sqlite.specs.Held.{state};
-ghost use Rattle.mr_model.specs.Texts.{within};
 ghost use Rattle.mr_model.specs.Replica.{is_among};
-ghost use Rattle.mr_model.specs.Queries.{booking_id, error_id, cancelled_id, cancel_id, log_id};
+ghost use Rattle.mr_model.specs.Queries.{booking_id, error_id, cancelled_id, cancel_id};
 ghost use Rattle.mr_rows.specs.Schema.{our_schema};
-ghost use Rattle.mr_rows.specs.RowCells.{meta_in, log_in, booking_row_from, error_in, cancelled_in, cancel_row_from};
+ghost use Rattle.mr_rows.specs.RowCells.{meta_in, booking_row_from, error_in, cancelled_in, cancel_row_from};
+ghost use Rattle.mr_rows.specs.Form.{booking_form, error_form, cancelled_form, cancel_form};
 ghost use Rattle.mr_rows.specs.Database.{tables_in};
 ghost use Rattle.mr_rows.specs.Shown.{columns_from};
 ghost use Rattle.mr_rows.specs.Reads.{ReadsKept, Looks, metas_in};
-ghost use Rattle.mr_rows.specs.Causes.{FailsByStore, IsSure};
+ghost use Rattle.mr_rows.specs.Causes.{FailsByStore, IsSure, ShowsRows};
 ghost use Rattle.mr_rows.specs.RowQuestions.{is_booking_asked, is_error_asked, is_cancelled_asked, is_cancel_asked};
 
-use crate::numbers::Number;
+use crate::idle::Idle;
 use mr_base::RoomName;
 use sqlite::types::ValueRef;
-use sqlite::{Alter, Connection, Error, Row, params};
-
-/// The text that asks for the rows of `log` whose `seq` is between two numbers.
-pub(crate) const LOGS_BETWEEN: &str =
-    "SELECT server, n, tm, room, kind, length, choices, title, tserver, tn, place, seq FROM log WHERE seq >= ?1 AND seq <= ?2";
-
-/// The texts that ask for the rows of a room.
-pub(crate) const ROOM_BOOKINGS: &str =
-    "SELECT room, day, start, stop, server, n, title, committed FROM booking WHERE room = ?1";
-
-pub(crate) const ROOM_CANCELLED: &str =
-    "SELECT room, day, start, stop, server, n, title, committed, bserver, bn FROM cancelled WHERE room = ?1";
+use sqlite::{Alter, Error, Row, params};
 
 /// The rows that a text shows which means a query under our schema.
 pub(crate) fn ask<S: Alter>(
-    conn: &mut Connection<S>,
+    conn: &mut Idle<S>,
     sql: &str,
     params: &[ValueRef<'_>],
 ) -> Result<Vec<Row>, Error>
-    requires autocommit { conn.old.in_transaction ≡ false }
     requires plain { IsPlain (understood our_schema sql.now) }
-    ensures autocommit { conn.new.in_transaction ≡ false }
     ensures reads { ReadsKept (state S.Store conn.old) (state S.Store conn.new) result
         (λ rows. Shown sql.now (bound params.now) (state S.Store conn.old) (state S.Store conn.new) rows.items) }
     ensures looks { Looks (state S.Store conn.old) (state S.Store conn.new) result
         (λ rows. Shown sql.now (bound params.now) (state S.Store conn.old) (state S.Store conn.new) rows.items) }
     ensures cause { IsSure sql.now (bound params.now) → FailsByStore (λ _. ⊤) (state S.Store conn.old) (state S.Store conn.new) result }
 {
-    conn.query_all(sql, params)
+    conn.connection.query_all(sql, params)
 }
 
 /// All rows of `meta`.
-pub(crate) fn select_all_meta<S: Alter>(conn: &mut Connection<S>) -> Result<Vec<Row>, Error>
-    requires autocommit { conn.old.in_transaction ≡ false }
-    ensures autocommit { conn.new.in_transaction ≡ false }
+pub(crate) fn select_all_meta<S: Alter>(conn: &mut Idle<S>) -> Result<Vec<Row>, Error>
     ensures reads { ReadsKept (state S.Store conn.old) (state S.Store conn.new) result
         (λ rows. IsPermutation (metas_in (state S.Store conn.old).now.trees) (map (λ row. meta_in (Null ∷ row)) rows.items)) }
     ensures looks { Looks (state S.Store conn.old) (state S.Store conn.new) result
@@ -68,66 +53,33 @@ pub(crate) fn select_all_meta<S: Alter>(conn: &mut Connection<S>) -> Result<Vec<
     )
 }
 
-/// The rows of an id in `log`.
-pub(crate) fn select_key_log<S: Alter>(
-    conn: &mut Connection<S>,
-    server: u32,
-    n: u32,
-) -> Result<Vec<Row>, Error>
-    requires autocommit { conn.old.in_transaction ≡ false }
-    ensures autocommit { conn.new.in_transaction ≡ false }
-    ensures reads { ReadsKept (state S.Store conn.old) (state S.Store conn.new) result
-        (λ rows. IsPermutation (filter (λ r. is_among (log_id r) (record { server = server; n = n } ∷ [])) (tables_in (state S.Store conn.old).now.trees).log)
-        (map (λ row. log_in (Null ∷ row)) rows.items)) }
-{
-    ask(
-        conn,
-        "SELECT server, n, tm, room, kind, length, choices, title, tserver, tn, place, seq FROM log WHERE server = ?1 AND n = ?2",
-        params![server, n],
-    )
-}
-
-/// The rows of `log` whose `seq` is between these numbers.
-pub(crate) fn select_between_log<S: Alter>(
-    conn: &mut Connection<S>,
-    low: Number,
-    high: Number,
-) -> Result<Vec<Row>, Error>
-    requires autocommit { conn.old.in_transaction ≡ false }
-    ensures autocommit { conn.new.in_transaction ≡ false }
-    ensures reads { ReadsKept (state S.Store conn.old) (state S.Store conn.new) result
-        (λ rows. IsPermutation (filter (λ r. within low.value high.value r.seq) (tables_in (state S.Store conn.old).now.trees).log)
-        (map (λ row. log_in (Null ∷ row)) rows.items)) }
-{
-    ask(conn, LOGS_BETWEEN, params![low, high])
-}
-
 /// The rows of a room in `booking`.
-pub fn select_room_booking<S: Alter>(
-    conn: &mut Connection<S>,
-    room: &RoomName,
-) -> Result<Vec<Row>, Error>
-    requires autocommit { conn.old.in_transaction ≡ false }
-    ensures autocommit { conn.new.in_transaction ≡ false }
+pub fn select_room_booking<S: Alter>(conn: &mut Idle<S>, room: &RoomName) -> Result<Vec<Row>, Error>
     ensures reads { ReadsKept (state S.Store conn.old) (state S.Store conn.new) result
         (λ rows. IsPermutation (filter (is_booking_asked room.now) (tables_in (state S.Store conn.old).now.trees).booking)
         (map (λ row. booking_row_from (Null ∷ row)) rows.items)) }
+    ensures cause { FailsByStore (λ _. ⊤) (state S.Store conn.old) (state S.Store conn.new) result }
+    ensures shown { ShowsRows booking_form (state S.Store conn.old) (state S.Store conn.new) result }
 {
-    ask(conn, ROOM_BOOKINGS, params![room.as_str()])
+    ask(
+        conn,
+        "SELECT room, day, start, stop, server, n, title, committed FROM booking WHERE room = ?1",
+        params![room.as_str()],
+    )
 }
 
 /// The rows of an id in `booking`.
 pub fn select_key_booking<S: Alter>(
-    conn: &mut Connection<S>,
+    conn: &mut Idle<S>,
     server: u32,
     n: u32,
 ) -> Result<Vec<Row>, Error>
-    requires autocommit { conn.old.in_transaction ≡ false }
-    ensures autocommit { conn.new.in_transaction ≡ false }
     ensures reads { ReadsKept (state S.Store conn.old) (state S.Store conn.new) result
         (λ rows. IsPermutation
         (filter (λ r. is_among (booking_id r) (record { server = server; n = n } ∷ [])) (tables_in (state S.Store conn.old).now.trees).booking)
         (map (λ row. booking_row_from (Null ∷ row)) rows.items)) }
+    ensures cause { FailsByStore (λ _. ⊤) (state S.Store conn.old) (state S.Store conn.new) result }
+    ensures shown { ShowsRows booking_form (state S.Store conn.old) (state S.Store conn.new) result }
 {
     ask(
         conn,
@@ -137,15 +89,12 @@ pub fn select_key_booking<S: Alter>(
 }
 
 /// The rows of a room in `errorlog`.
-pub fn select_room_error<S: Alter>(
-    conn: &mut Connection<S>,
-    room: &RoomName,
-) -> Result<Vec<Row>, Error>
-    requires autocommit { conn.old.in_transaction ≡ false }
-    ensures autocommit { conn.new.in_transaction ≡ false }
+pub fn select_room_error<S: Alter>(conn: &mut Idle<S>, room: &RoomName) -> Result<Vec<Row>, Error>
     ensures reads { ReadsKept (state S.Store conn.old) (state S.Store conn.new) result
         (λ rows. IsPermutation (filter (is_error_asked room.now) (tables_in (state S.Store conn.old).now.trees).errorlog)
         (map (λ row. error_in (Null ∷ row)) rows.items)) }
+    ensures cause { FailsByStore (λ _. ⊤) (state S.Store conn.old) (state S.Store conn.new) result }
+    ensures shown { ShowsRows error_form (state S.Store conn.old) (state S.Store conn.new) result }
 {
     ask(
         conn,
@@ -156,16 +105,16 @@ pub fn select_room_error<S: Alter>(
 
 /// The rows of an id in `errorlog`.
 pub fn select_key_error<S: Alter>(
-    conn: &mut Connection<S>,
+    conn: &mut Idle<S>,
     server: u32,
     n: u32,
 ) -> Result<Vec<Row>, Error>
-    requires autocommit { conn.old.in_transaction ≡ false }
-    ensures autocommit { conn.new.in_transaction ≡ false }
     ensures reads { ReadsKept (state S.Store conn.old) (state S.Store conn.new) result
         (λ rows. IsPermutation
         (filter (λ r. is_among (error_id r) (record { server = server; n = n } ∷ [])) (tables_in (state S.Store conn.old).now.trees).errorlog)
         (map (λ row. error_in (Null ∷ row)) rows.items)) }
+    ensures cause { FailsByStore (λ _. ⊤) (state S.Store conn.old) (state S.Store conn.new) result }
+    ensures shown { ShowsRows error_form (state S.Store conn.old) (state S.Store conn.new) result }
 {
     ask(
         conn,
@@ -176,30 +125,34 @@ pub fn select_key_error<S: Alter>(
 
 /// The rows of a room in `cancelled`.
 pub fn select_room_cancelled<S: Alter>(
-    conn: &mut Connection<S>,
+    conn: &mut Idle<S>,
     room: &RoomName,
 ) -> Result<Vec<Row>, Error>
-    requires autocommit { conn.old.in_transaction ≡ false }
-    ensures autocommit { conn.new.in_transaction ≡ false }
     ensures reads { ReadsKept (state S.Store conn.old) (state S.Store conn.new) result
         (λ rows. IsPermutation (filter (is_cancelled_asked room.now) (tables_in (state S.Store conn.old).now.trees).cancelled)
         (map (λ row. cancelled_in (Null ∷ row)) rows.items)) }
+    ensures cause { FailsByStore (λ _. ⊤) (state S.Store conn.old) (state S.Store conn.new) result }
+    ensures shown { ShowsRows cancelled_form (state S.Store conn.old) (state S.Store conn.new) result }
 {
-    ask(conn, ROOM_CANCELLED, params![room.as_str()])
+    ask(
+        conn,
+        "SELECT room, day, start, stop, server, n, title, committed, bserver, bn FROM cancelled WHERE room = ?1",
+        params![room.as_str()],
+    )
 }
 
 /// The rows of an id in `cancelled`.
 pub fn select_key_cancelled<S: Alter>(
-    conn: &mut Connection<S>,
+    conn: &mut Idle<S>,
     server: u32,
     n: u32,
 ) -> Result<Vec<Row>, Error>
-    requires autocommit { conn.old.in_transaction ≡ false }
-    ensures autocommit { conn.new.in_transaction ≡ false }
     ensures reads { ReadsKept (state S.Store conn.old) (state S.Store conn.new) result
         (λ rows. IsPermutation
         (filter (λ r. is_among (cancelled_id r) (record { server = server; n = n } ∷ [])) (tables_in (state S.Store conn.old).now.trees).cancelled)
         (map (λ row. cancelled_in (Null ∷ row)) rows.items)) }
+    ensures cause { FailsByStore (λ _. ⊤) (state S.Store conn.old) (state S.Store conn.new) result }
+    ensures shown { ShowsRows cancelled_form (state S.Store conn.old) (state S.Store conn.new) result }
 {
     ask(
         conn,
@@ -209,15 +162,12 @@ pub fn select_key_cancelled<S: Alter>(
 }
 
 /// The rows of a room in `cancel`.
-pub fn select_room_cancel<S: Alter>(
-    conn: &mut Connection<S>,
-    room: &RoomName,
-) -> Result<Vec<Row>, Error>
-    requires autocommit { conn.old.in_transaction ≡ false }
-    ensures autocommit { conn.new.in_transaction ≡ false }
+pub fn select_room_cancel<S: Alter>(conn: &mut Idle<S>, room: &RoomName) -> Result<Vec<Row>, Error>
     ensures reads { ReadsKept (state S.Store conn.old) (state S.Store conn.new) result
         (λ rows. IsPermutation (filter (is_cancel_asked room.now) (tables_in (state S.Store conn.old).now.trees).cancels)
         (map (λ row. cancel_row_from (Null ∷ row)) rows.items)) }
+    ensures cause { FailsByStore (λ _. ⊤) (state S.Store conn.old) (state S.Store conn.new) result }
+    ensures shown { ShowsRows cancel_form (state S.Store conn.old) (state S.Store conn.new) result }
 {
     ask(
         conn,
@@ -228,16 +178,16 @@ pub fn select_room_cancel<S: Alter>(
 
 /// The rows of an id in `cancel`.
 pub fn select_key_cancel<S: Alter>(
-    conn: &mut Connection<S>,
+    conn: &mut Idle<S>,
     server: u32,
     n: u32,
 ) -> Result<Vec<Row>, Error>
-    requires autocommit { conn.old.in_transaction ≡ false }
-    ensures autocommit { conn.new.in_transaction ≡ false }
     ensures reads { ReadsKept (state S.Store conn.old) (state S.Store conn.new) result
         (λ rows. IsPermutation
         (filter (λ r. is_among (cancel_id r) (record { server = server; n = n } ∷ [])) (tables_in (state S.Store conn.old).now.trees).cancels)
         (map (λ row. cancel_row_from (Null ∷ row)) rows.items)) }
+    ensures cause { FailsByStore (λ _. ⊤) (state S.Store conn.old) (state S.Store conn.new) result }
+    ensures shown { ShowsRows cancel_form (state S.Store conn.old) (state S.Store conn.new) result }
 {
     ask(
         conn,
@@ -247,9 +197,7 @@ pub fn select_key_cancel<S: Alter>(
 }
 
 /// The servers of all rows of `write_log`, which has no row in a keeper's database.
-pub(crate) fn select_all_write_log<S: Alter>(conn: &mut Connection<S>) -> Result<Vec<Row>, Error>
-    requires autocommit { conn.old.in_transaction ≡ false }
-    ensures autocommit { conn.new.in_transaction ≡ false }
+pub(crate) fn select_all_write_log<S: Alter>(conn: &mut Idle<S>) -> Result<Vec<Row>, Error>
     ensures looks { Looks (state S.Store conn.old) (state S.Store conn.new) result
         (λ rows. IsPermutation (map (columns_from 1 1) ((state S.Store conn.old).now.trees 6)) rows.items) }
     ensures cause { FailsByStore (λ _. ⊤) (state S.Store conn.old) (state S.Store conn.new) result }
@@ -258,9 +206,7 @@ pub(crate) fn select_all_write_log<S: Alter>(conn: &mut Connection<S>) -> Result
 }
 
 /// The servers of all rows of `undo`, which has no row in a keeper's database.
-pub(crate) fn select_all_undo<S: Alter>(conn: &mut Connection<S>) -> Result<Vec<Row>, Error>
-    requires autocommit { conn.old.in_transaction ≡ false }
-    ensures autocommit { conn.new.in_transaction ≡ false }
+pub(crate) fn select_all_undo<S: Alter>(conn: &mut Idle<S>) -> Result<Vec<Row>, Error>
     ensures looks { Looks (state S.Store conn.old) (state S.Store conn.new) result
         (λ rows. IsPermutation (map (columns_from 1 1) ((state S.Store conn.old).now.trees 8)) rows.items) }
     ensures cause { FailsByStore (λ _. ⊤) (state S.Store conn.old) (state S.Store conn.new) result }

@@ -1,4 +1,4 @@
-ghost use Rattle.std.specs.Prelude.{◌≡◌, ◌≢◌, [], ◌∷◌, false, length, map, List, IfOk, IfErr, OnOk, IsTrue, ⊤};
+ghost use Rattle.std.specs.Prelude.{◌≡◌, ◌≢◌, [], ◌∷◌, length, map, List, IfOk, IfErr, OnOk, IsTrue, ⊤};
 ghost use Rattle.std.specs.List.{All};
 ghost use Rattle.std.specs.List.Sorted.{IsPermutation};
 ghost use Rattle.std.specs.Cmp.{IsTotalOrder};
@@ -15,8 +15,9 @@ ghost use Rattle.mr_rows.specs.Database.{AreHeld, MakesTables, tables_in};
 ghost use Rattle.mr_rows.specs.Reads.{ReadsKept, Looks};
 ghost use Rattle.mr_rows.specs.Causes.{FailsByStore};
 
+use crate::idle::Idle;
 use mr_base::WriteId;
-use sqlite::{Alter, Connection, Error, ErrorCode, Row, Transaction};
+use sqlite::{Alter, Error, ErrorCode, Row, Transaction};
 use std::alloc::Global;
 use std::cmp::Ordering;
 
@@ -59,9 +60,7 @@ pub trait StoredRow: Drop {
         ensures rises { (trees : Trees) → IsAscending (λ a b. order a b ≡ Ordering.Less) (rows_of (tables_in trees)) };
 
     /// All rows of the table.
-    fn select_all<S: Alter>(conn: &mut Connection<S>) -> Result<Vec<Row>, Error>
-        requires autocommit { conn.old.in_transaction ≡ false }
-        ensures autocommit { conn.new.in_transaction ≡ false }
+    fn select_all<S: Alter>(conn: &mut Idle<S>) -> Result<Vec<Row>, Error>
         ensures reads { ReadsKept (state S.Store conn.old) (state S.Store conn.new) result
             (λ rows. IsPermutation (rows_of (tables_in (state S.Store conn.old).now.trees)) (map (λ row. form.row_in (Null ∷ row)) rows.items)) }
         ensures looks { Looks (state S.Store conn.old) (state S.Store conn.new) result
@@ -89,13 +88,7 @@ pub trait StoredRow: Drop {
 /// A row of a table whose rows are all tested.
 pub(crate) trait FoundRow: StoredRow {
     /// Finds that each row of the table keeps its rules and the limits. If they are to be kept it answers them, in any order.
-    fn find<S: Alter>(
-        conn: &mut Connection<S>,
-        alloc: Global,
-        keep: bool,
-    ) -> Result<Vec<Self>, Error>
-        requires autocommit { conn.old.in_transaction ≡ false }
-        ensures autocommit { conn.new.in_transaction ≡ false }
+    fn find<S: Alter>(conn: &mut Idle<S>, alloc: Global, keep: bool) -> Result<Vec<Self>, Error>
         ensures looks { Looks (state S.Store conn.old) (state S.Store conn.new) result
             (λ rows. AreStoredAs Self.form (state S.Store conn.old).now.trees
             × (IsTrue keep → AreHeld (state S.Store conn.old).now.trees → IsPermutation (Self.rows_of (tables_in (state S.Store conn.old).now.trees)) rows.items)) }
@@ -121,13 +114,6 @@ pub(crate) trait RequestRow: StoredRow {
 
 /// The rows of an answer, in its order.
 pub fn read_all<R: StoredRow>(alloc: Global, rows: &[Row]) -> Result<Vec<R>, Error>
-    ensures { IfOk result (λ out. out.items ≡ map (λ row. R.form.row_in (Null ∷ row)) rows.now) }
-{
-    read_rows(alloc, rows)
-}
-
-/// As `read_all`, and none is refused that is a row of the table within its limits.
-pub(crate) fn read_rows<R: StoredRow>(alloc: Global, rows: &[Row]) -> Result<Vec<R>, Error>
     ensures same { IfOk result (λ out. out.items ≡ map (λ row. R.form.row_in (Null ∷ row)) rows.now) }
     ensures refused { IfErr result (λ e. e ≢ Error.SqliteFailure ErrorCode.OutOfMemory → ¬ All (IsShownAs R.form) rows.now) }
 {

@@ -13,24 +13,22 @@ ghost use Rattle.mr_rows.specs.ChangeParts.{take_logs, take_bookings, take_error
 ghost use Rattle.mr_rows.specs.TakeLaws.{logs_none, bookings_none, errors_none, logs_more, bookings_more, errors_more};
 
 use crate::actions::{has_action, read_action};
-use crate::asked_rows::add_shown;
 use crate::cells::{
     has_commit, has_id, has_name, has_number, has_time, passes, read_commit, read_id, read_name,
     read_number, read_time,
 };
 use crate::found::take_rows;
+use crate::idle::Idle;
 use crate::numbers::Number;
-use crate::passing::PassingRow;
 use crate::puts::{
     LogNumbers, day_text, put_booking_cells, put_error_cells, put_log_cells, put_vector_cells,
 };
 use crate::queries::ask;
-use crate::row_tests::RowTest;
 use crate::slot_cells::{has_booking, has_error, read_booking, read_error};
 use crate::stored_rows::{FoundRow, RequestRow, StoredRow};
 use mr_base::{GREATEST_COUNT, RoomName, ServerId, WriteId};
 use mr_tables::{BookingRow, ErrorRow, LogRow, VectorRow};
-use sqlite::{Alter, Connection, Error, ErrorCode, Row, Transaction, params};
+use sqlite::{Alter, Error, ErrorCode, Row, Transaction, params};
 use std::alloc::Global;
 use std::cmp::Ordering;
 
@@ -75,7 +73,7 @@ impl StoredRow for RoomName {
 
     fn keeps_order() {}
 
-    fn select_all<S: Alter>(conn: &mut Connection<S>) -> Result<Vec<Row>, Error> {
+    fn select_all<S: Alter>(conn: &mut Idle<S>) -> Result<Vec<Row>, Error> {
         ask(conn, ALL_ROOMS, &[])
     }
 
@@ -97,7 +95,7 @@ impl StoredRow for RoomName {
 
 impl FoundRow for RoomName {
     fn find<S: Alter>(
-        conn: &mut Connection<S>,
+        conn: &mut Idle<S>,
         alloc: Global,
         keep: bool,
     ) -> Result<Vec<RoomName>, Error> {
@@ -130,7 +128,7 @@ impl StoredRow for VectorRow {
 
     fn keeps_order() {}
 
-    fn select_all<S: Alter>(conn: &mut Connection<S>) -> Result<Vec<Row>, Error> {
+    fn select_all<S: Alter>(conn: &mut Idle<S>) -> Result<Vec<Row>, Error> {
         ask(conn, ALL_VECTOR, &[])
     }
 
@@ -150,7 +148,7 @@ impl StoredRow for VectorRow {
 
 impl FoundRow for VectorRow {
     fn find<S: Alter>(
-        conn: &mut Connection<S>,
+        conn: &mut Idle<S>,
         alloc: Global,
         keep: bool,
     ) -> Result<Vec<VectorRow>, Error> {
@@ -183,7 +181,7 @@ impl StoredRow for LogRow {
 
     fn keeps_order() {}
 
-    fn select_all<S: Alter>(conn: &mut Connection<S>) -> Result<Vec<Row>, Error> {
+    fn select_all<S: Alter>(conn: &mut Idle<S>) -> Result<Vec<Row>, Error> {
         ask(conn, ALL_LOGS, &[])
     }
 
@@ -203,11 +201,7 @@ impl StoredRow for LogRow {
 }
 
 impl FoundRow for LogRow {
-    fn find<S: Alter>(
-        conn: &mut Connection<S>,
-        alloc: Global,
-        keep: bool,
-    ) -> Result<Vec<LogRow>, Error> {
+    fn find<S: Alter>(conn: &mut Idle<S>, alloc: Global, keep: bool) -> Result<Vec<LogRow>, Error> {
         take_rows(conn, alloc, ALL_LOGS, keep)
     }
 }
@@ -252,7 +246,7 @@ impl StoredRow for BookingRow {
 
     fn keeps_order() {}
 
-    fn select_all<S: Alter>(conn: &mut Connection<S>) -> Result<Vec<Row>, Error> {
+    fn select_all<S: Alter>(conn: &mut Idle<S>) -> Result<Vec<Row>, Error> {
         ask(conn, ALL_BOOKINGS, &[])
     }
 
@@ -272,22 +266,11 @@ impl StoredRow for BookingRow {
 
 impl FoundRow for BookingRow {
     fn find<S: Alter>(
-        conn: &mut Connection<S>,
+        conn: &mut Idle<S>,
         alloc: Global,
         keep: bool,
     ) -> Result<Vec<BookingRow>, Error> {
         take_rows(conn, alloc, ALL_BOOKINGS, keep)
-    }
-}
-
-impl PassingRow for BookingRow {
-    fn add_passing<T: RowTest<BookingRow>, S: Alter>(
-        conn: &mut Connection<S>,
-        alloc: Global,
-        test: &T,
-        out: &mut Vec<BookingRow>,
-    ) -> Result<(), Error> {
-        add_shown(conn, alloc, ALL_BOOKINGS, &[], test, out)
     }
 }
 
@@ -331,7 +314,7 @@ impl StoredRow for ErrorRow {
 
     fn keeps_order() {}
 
-    fn select_all<S: Alter>(conn: &mut Connection<S>) -> Result<Vec<Row>, Error> {
+    fn select_all<S: Alter>(conn: &mut Idle<S>) -> Result<Vec<Row>, Error> {
         ask(conn, ALL_ERRORS, &[])
     }
 
@@ -353,7 +336,7 @@ impl StoredRow for ErrorRow {
 
 impl FoundRow for ErrorRow {
     fn find<S: Alter>(
-        conn: &mut Connection<S>,
+        conn: &mut Idle<S>,
         alloc: Global,
         keep: bool,
     ) -> Result<Vec<ErrorRow>, Error> {

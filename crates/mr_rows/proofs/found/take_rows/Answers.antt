@@ -9,13 +9,13 @@ use Rattle.mr_rows.proofs.found.take_rows.Goals as goal
 
 pub returns-in_err-rows-clause-looks : goal.returns-in_err-rows-clause-looks
 returns-in_err-rows-clause-looks g c =
-    let read = refused g.S.Store c.args.sql.now [] c.requires.plain c.args.conn.now c.query.follows.lender-at-none c.query.result (rw c.in_err-rows.was tt) c.query.follows.holds-at-none in
+    let read = refused g.S.Store c.args.sql.now [] c.requires.plain c.args.conn.now c.query.follows.lender-at-none c.query.result (rw c.in_err-rows.was tt) (rw c.conn.view_is at c.query.follows.holds-at-none) in
     (read.0, read.1, λ clean here. (search rules, search rules))
 
 pub rows-init : goal.rows-init
 rows-init g c =
     let made = c.in_ok-rows.ensures in
-    (refl, made.mode c.requires.autocommit, begun g.S.Store c.args.sql.now [] c.requires.plain (AreTaken g.R.StoredRow.form c.args.keep c.new-out.result.items) c.args.conn.now c.in_ok-rows.rows.conn.now made.begun made.survives (tt, λ kept. search rules))
+    (refl, made.mode c.conn.invariant, begun g.S.Store c.args.sql.now [] c.requires.plain (AreTaken g.R.StoredRow.form c.args.keep c.new-out.result.items) c.args.conn.now c.in_ok-rows.rows.conn.now (rw c.conn.view_is at made.begun) (rw c.conn.view_is at made.survives) (tt, λ kept. search rules))
 
 pub returns-in_err-advance-clause-looks : goal.returns-in_err-advance-clause-looks
 returns-in_err-advance-clause-looks g c =
@@ -72,7 +72,7 @@ rows-preserved g c =
 
 pub returns-in_err-rows-clause-cause : goal.returns-in_err-rows-clause-cause
 returns-in_err-rows-clause-cause g c = λ shows clean here all.
-    let told = not_asked g.S.Store c.args.sql.now [] c.requires.plain c.requires.sure c.args.conn.now c.query.follows.lender-at-none c.query.result c.query.follows.holds-at-none clean here all in
+    let told = not_asked g.S.Store c.args.sql.now [] c.requires.plain c.requires.sure c.args.conn.now c.query.follows.lender-at-none c.query.result (rw c.conn.view_is at c.query.follows.holds-at-none) clean here all in
     search rules
 
 pub returns-in_err-advance-clause-cause : goal.returns-in_err-advance-clause-cause

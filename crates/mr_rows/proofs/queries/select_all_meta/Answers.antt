@@ -7,8 +7,8 @@ use Rattle.mr_rows.proofs.SelectLemmas.{shows_all_meta, sees_all_meta}
 use Rattle.mr_rows.proofs.SureTexts.{all_meta_sure}
 use Rattle.mr_rows.proofs.queries.select_all_meta.Goals as goal
 
-pub ask-requires-clause-plain : goal.ask-requires-clause-plain
-ask-requires-clause-plain g c = all_meta_is.0.1
+pub ask-requires : goal.ask-requires
+ask-requires g c = record { plain = all_meta_is.0.1 }
 
 pub returns-clause-reads : goal.returns-clause-reads
 returns-clause-reads g c =

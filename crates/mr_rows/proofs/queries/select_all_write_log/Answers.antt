@@ -7,8 +7,8 @@ use Rattle.mr_rows.proofs.SelectLemmas.{sees_write_log}
 use Rattle.mr_rows.proofs.SureTexts.{write_log_sure}
 use Rattle.mr_rows.proofs.queries.select_all_write_log.Goals as goal
 
-pub ask-requires-clause-plain : goal.ask-requires-clause-plain
-ask-requires-clause-plain g c = write_log_is.0.1
+pub ask-requires : goal.ask-requires
+ask-requires g c = record { plain = write_log_is.0.1 }
 
 pub returns-clause-looks : goal.returns-clause-looks
 returns-clause-looks g c =

@@ -7,8 +7,8 @@ use Rattle.mr_rows.proofs.QueryLemmas.{reads_so, looks_so}
 use Rattle.mr_rows.proofs.SelectLemmas.{shows_all_cancelled, sees_all_cancelled}
 use Rattle.mr_rows.proofs.cancel_rows.CancelledRowStoredRow.select_all.Goals as goal
 
-pub ask-requires-clause-plain : goal.ask-requires-clause-plain
-ask-requires-clause-plain g c = all_cancelled_is.0.1
+pub ask-requires : goal.ask-requires
+ask-requires g c = record { plain = all_cancelled_is.0.1 }
 
 pub returns-clause-reads : goal.returns-clause-reads
 returns-clause-reads g c =
