@@ -6,8 +6,11 @@ pub mod Selects
 pub mod ClearLemmas
 pub mod MakeLemmas
 pub mod ReadLemmas
+pub mod FirstCauses
+pub mod SureFirstTexts
 pub mod PairLemmas
 pub mod Held
 pub mod FilledDatabase
 pub mod MoveLemmas
 pub mod FirstShownRows
+pub mod FirstLimits

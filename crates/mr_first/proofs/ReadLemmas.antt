@@ -49,16 +49,16 @@ still_kept a b kept same = record { ours = subst IsFirst (sym same.0) kept.ours;
 still_placed : (a b : State) → IsPlacedIn first_schema a → (b.now ≡ a.now) × (b.committed ≡ a.committed) → IsPlacedIn first_schema b
 still_placed a b here same = record { schema = ap (λ (d : Database). d.schema) same.0 ∙ here.schema; settled = same.0 ∙ here.settled ∙ sym same.1 }
 
+pub kept_placed : (s : State) → IsKeptFirst s → IsPlacedIn first_schema s
+kept_placed s kept = record { schema = kept.ours.schema; settled = kept.settled }
+
 -- what is told of any rows is told of those of a database that keeps its rules
 pub reads_of_looks : {X : Type 0} (old new : State) (r : Result X Error) (P : X → Type 0) → LooksFirst old new r P → ReadsFirst old new r P
 reads_of_looks old new r P h = (
-  survives_weaker old new _ _ (λ _ db none kept. none (placed kept)) h.0,
-  λ clean now. let told = h.1 clean now in (told.0, λ kept. told.1 (placed kept)),
-  λ clean kept. h.2 clean (placed kept),
+  survives_weaker old new _ _ (λ _ db none kept. none (kept_placed old kept)) h.0,
+  λ clean now. let told = h.1 clean now in (told.0, λ kept. told.1 (kept_placed old kept)),
+  λ clean kept. h.2 clean (kept_placed old kept),
 )
-  where
-    placed : {s : State} → IsKeptFirst s → IsPlacedIn first_schema s
-    placed kept = record { schema = kept.ours.schema; settled = kept.settled }
 
 pub reads_made : {X Y : Type 0} (old new : State) (x : X) (P : X → Type 0) (r : Result Y Error) (Q : Y → Type 0) → (IsKeptFirst old → P x → IfOk r Q) → ReadsFirst old new (Ok x) P → ReadsFirst old new r Q
 reads_made = made_where IsKeptFirst

@@ -1,4 +1,4 @@
-ghost use Rattle.std.specs.Prelude.{◌≡◌, ◌≢◌, ℕ, [], ◌∷◌, false, length, map, List, IfOk, IfErr, IsTrue, refl};
+ghost use Rattle.std.specs.Prelude.{◌≡◌, ◌≢◌, ℕ, [], ◌∷◌, length, map, List, IfOk, IfErr, IsTrue, refl, ⊤};
 ghost use Rattle.std.specs.List.Sorted.{IsPermutation, IsSorted};
 ghost use Rattle.std.specs.Cmp.{IsTotalOrder};
 ghost use Rattle.std.specs.Cmp.Lexicographic.{slice_cmp};
@@ -15,19 +15,21 @@ ghost use Rattle.mr_model.specs.Queries.{booking_id, error_id};
 ghost use Rattle.mr_model.specs.First.{FirstTables};
 ghost use Rattle.mr_base.specs.Ids.{id_cmp};
 ghost use Rattle.mr_tables.specs.Change.{id_before};
+ghost use Rattle.mr_rows.specs.Schema.{first_schema};
 ghost use Rattle.mr_rows.specs.Form.{Form, room_form, vector_form, booking_form, error_form};
 ghost use Rattle.mr_rows.specs.Shown.{columns_from, IsShownAs, IsStoredAs};
+ghost use Rattle.mr_rows.specs.Causes.{FailsByStoreIn};
 ghost use Rattle.mr_first.specs.FirstDatabase.{AreHeldFirst, MakesFirst, LooksFirst, first_in};
 ghost use Rattle.mr_first.specs.FirstParts.{put_first_rooms, put_first_vector, put_first_bookings, put_first_errors};
 
 use crate::puts::{put_booking_cells, put_error_cells};
 use crate::queries::ask_first;
 use mr_base::{RoomName, ServerId};
-use mr_rows::StoredRow;
 use mr_rows::numbers::Number;
 use mr_rows::puts::day_text;
+use mr_rows::{Idle, StoredRow};
 use mr_tables::{BookingRow, ErrorRow, VectorRow};
-use sqlite::{Alter, Connection, Error, ErrorCode, Row, Transaction, params};
+use sqlite::{Alter, Error, ErrorCode, Row, Transaction, params};
 use std::alloc::Global;
 use std::cmp::Ordering;
 
@@ -70,11 +72,10 @@ pub trait FirstRow: Drop {
         ensures refused { IfErr result (λ e. e ≢ Error.SqliteFailure ErrorCode.OutOfMemory → ¬ IsShownAs form row.now) };
 
     /// All rows of the table.
-    fn select_all<S: Alter>(conn: &mut Connection<S>) -> Result<Vec<Row>, Error>
-        requires autocommit { conn.old.in_transaction ≡ false }
-        ensures autocommit { conn.new.in_transaction ≡ false }
+    fn select_all<S: Alter>(conn: &mut Idle<S>) -> Result<Vec<Row>, Error>
         ensures looks { LooksFirst (state S.Store conn.old) (state S.Store conn.new) result
-            (λ rows. IsPermutation (map (columns_from 1 (length form.table.columns)) ((state S.Store conn.old).now.trees form.table.tree)) rows.items) };
+            (λ rows. IsPermutation (map (columns_from 1 (length form.table.columns)) ((state S.Store conn.old).now.trees form.table.tree)) rows.items) }
+        ensures cause { FailsByStoreIn first_schema (λ _. ⊤) (state S.Store conn.old) (state S.Store conn.new) result };
 
     /// Puts the row in place of the one with its key, if there is one.
     fn put<S: Alter>(&self, tx: &mut Transaction<'_, S>, alloc: Global) -> Result<usize, Error>
@@ -85,6 +86,9 @@ pub trait FirstRow: Drop {
 
     // what holds of the columns that a query shows holds of the stored row
     ghost stored_is: { (r : _) → IsShownAs form (columns_from 1 (length form.table.columns) r) → IsStoredAs form r };
+
+    // and the other way round
+    ghost shown_is: { (r : _) → IsStoredAs form r → IsShownAs form (columns_from 1 (length form.table.columns) r) };
 
     ghost put_none: { (t : FirstTables) → put_in [] t ≡ t };
 
@@ -118,7 +122,7 @@ impl FirstRow for RoomName {
         <RoomName as StoredRow>::read(alloc, row)
     }
 
-    fn select_all<S: Alter>(conn: &mut Connection<S>) -> Result<Vec<Row>, Error> {
+    fn select_all<S: Alter>(conn: &mut Idle<S>) -> Result<Vec<Row>, Error> {
         ask_first(conn, "SELECT name FROM room")
     }
 
@@ -130,6 +134,8 @@ impl FirstRow for RoomName {
     }
 
     ghost stored_is = { λ r is. is };
+
+    ghost shown_is = { λ r is. is };
 
     ghost put_none = { λ t. refl };
 
@@ -161,7 +167,7 @@ impl FirstRow for VectorRow {
         <VectorRow as StoredRow>::read(alloc, row)
     }
 
-    fn select_all<S: Alter>(conn: &mut Connection<S>) -> Result<Vec<Row>, Error> {
+    fn select_all<S: Alter>(conn: &mut Idle<S>) -> Result<Vec<Row>, Error> {
         ask_first(conn, "SELECT server, n, tm, committed FROM vector")
     }
 
@@ -174,6 +180,8 @@ impl FirstRow for VectorRow {
     }
 
     ghost stored_is = { λ r is. is };
+
+    ghost shown_is = { λ r is. is };
 
     ghost put_none = { λ t. refl };
 
@@ -205,7 +213,7 @@ impl FirstRow for BookingRow {
         <BookingRow as StoredRow>::read(alloc, row)
     }
 
-    fn select_all<S: Alter>(conn: &mut Connection<S>) -> Result<Vec<Row>, Error> {
+    fn select_all<S: Alter>(conn: &mut Idle<S>) -> Result<Vec<Row>, Error> {
         ask_first(
             conn,
             "SELECT room, day, start, stop, server, n, title, committed FROM booking",
@@ -218,6 +226,8 @@ impl FirstRow for BookingRow {
     }
 
     ghost stored_is = { λ r is. is };
+
+    ghost shown_is = { λ r is. is };
 
     ghost put_none = { λ t. refl };
 
@@ -249,7 +259,7 @@ impl FirstRow for ErrorRow {
         <ErrorRow as StoredRow>::read(alloc, row)
     }
 
-    fn select_all<S: Alter>(conn: &mut Connection<S>) -> Result<Vec<Row>, Error> {
+    fn select_all<S: Alter>(conn: &mut Idle<S>) -> Result<Vec<Row>, Error> {
         ask_first(
             conn,
             "SELECT room, day, start, stop, server, n, title, tm, seq FROM errorlog",
@@ -262,6 +272,8 @@ impl FirstRow for ErrorRow {
     }
 
     ghost stored_is = { λ r is. is };
+
+    ghost shown_is = { λ r is. is };
 
     ghost put_none = { λ t. refl };
 

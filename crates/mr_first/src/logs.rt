@@ -15,10 +15,10 @@ use crate::rows::{FirstUndoRow, WriteRow};
 use mr_base::MINUTES_OF_A_DAY;
 use mr_rows::cells::{read_commit, read_id, read_name, read_number, read_time, read_title};
 use mr_rows::choices::read_choices;
-use mr_rows::compare_ids;
 use mr_rows::numbers::{Number, PlaceNumber};
+use mr_rows::{Idle, compare_ids};
 use mr_tables::MeetingCells;
-use sqlite::{Alter, Connection, Error, ErrorCode, Row, Transaction, params};
+use sqlite::{Alter, Error, ErrorCode, Row, Transaction, params};
 use std::alloc::Global;
 use std::cmp::Ordering;
 
@@ -49,7 +49,7 @@ impl FirstRow for WriteRow {
         read_write(alloc, row)
     }
 
-    fn select_all<S: Alter>(conn: &mut Connection<S>) -> Result<Vec<Row>, Error> {
+    fn select_all<S: Alter>(conn: &mut Idle<S>) -> Result<Vec<Row>, Error> {
         ask_first(
             conn,
             "SELECT server, n, tm, room, length, choices, title, seq FROM write_log",
@@ -76,6 +76,8 @@ impl FirstRow for WriteRow {
     }
 
     ghost stored_is = { λ r is. is };
+
+    ghost shown_is = { λ r is. is };
 
     ghost put_none = { λ t. refl };
 
@@ -144,7 +146,7 @@ impl FirstRow for FirstUndoRow {
         read_undo(row)
     }
 
-    fn select_all<S: Alter>(conn: &mut Connection<S>) -> Result<Vec<Row>, Error> {
+    fn select_all<S: Alter>(conn: &mut Idle<S>) -> Result<Vec<Row>, Error> {
         ask_first(conn, "SELECT server, n, place FROM undo")
     }
 
@@ -160,6 +162,8 @@ impl FirstRow for FirstUndoRow {
     }
 
     ghost stored_is = { λ r is. is };
+
+    ghost shown_is = { λ r is. is };
 
     ghost put_none = { λ t. refl };
 

@@ -1,16 +1,20 @@
-ghost use Rattle.std.specs.Prelude.{◌≡◌, ◌≤◌, ◌∷◌, false, length, map, IfOk, IfErr, OnOk};
+ghost use Rattle.std.specs.Prelude.{◌≡◌, ◌≤◌, ◌∷◌, length, map, IfOk, IfErr, OnOk};
 ghost use Rattle.std.specs.List.{All};
 ghost use Rattle.sqlite_value.specs.declared.value.Value.TheVariants.{Null};
 ghost use Rattle.sqlite.specs.Held.{state};
 ghost use Rattle.mr_rows.specs.RowCells.{meta_in};
+ghost use Rattle.mr_rows.specs.Schema.{first_schema};
 ghost use Rattle.mr_rows.specs.Shown.{IsShownAs, listed};
+ghost use Rattle.mr_rows.specs.Causes.{FailsByStoreIn};
 ghost use Rattle.mr_first.specs.Forms.{first_meta_form};
 ghost use Rattle.mr_first.specs.FirstDatabase.{ReadsFirst, first_in};
+ghost use Rattle.mr_first.specs.MovedUp.{HasOneMeta};
 
 use crate::queries::select_all_meta;
+use mr_rows::Idle;
 use mr_rows::meta_row::{first_meta, read_meta_of};
 use mr_tables::MetaRow;
-use sqlite::{Alter, Connection, Error, Row};
+use sqlite::{Alter, Error, Row};
 
 /// The row, if there is one. More than one are refused.
 pub(crate) fn only_meta(rows: &[Row]) -> Result<Option<MetaRow>, Error>
@@ -26,10 +30,9 @@ pub(crate) fn only_meta(rows: &[Row]) -> Result<Option<MetaRow>, Error>
 }
 
 /// The row of `meta`.
-pub(crate) fn the_meta<S: Alter>(conn: &mut Connection<S>) -> Result<MetaRow, Error>
-    requires autocommit { conn.old.in_transaction ≡ false }
-    ensures autocommit { conn.new.in_transaction ≡ false }
+pub(crate) fn the_meta<S: Alter>(conn: &mut Idle<S>) -> Result<MetaRow, Error>
     ensures reads { ReadsFirst (state S.Store conn.old) (state S.Store conn.new) result (λ row. row ≡ (first_in (state S.Store conn.old).now.trees).meta) }
+    ensures cause { FailsByStoreIn first_schema HasOneMeta (state S.Store conn.old) (state S.Store conn.new) result }
 {
     let rows = select_all_meta(conn)?;
     first_meta(&rows, 1)

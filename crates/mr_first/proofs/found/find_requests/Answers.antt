@@ -1,9 +1,11 @@
 use Rattle.std.proofs.Common.{rules}
+use Rattle.sqlite_trees.specs.Tree.{Trees}
 use Rattle.sqlite.specs.Held.{state}
 use Rattle.mr_rows.specs.Form.{booking_form, error_form}
 use Rattle.mr_rows.specs.Shown.{AreStoredAs}
 use Rattle.mr_first.specs.Forms.{write_form, undo_form}
 use Rattle.mr_first.proofs.ReadLemmas.{looks_then}
+use Rattle.mr_first.proofs.FirstCauses.{looks_fail}
 use Rattle.mr_first.proofs.found.find_requests.Goals as goal
 
 pub returns-in_err-find_two-clause-looks : goal.returns-in_err-find_two-clause-looks
@@ -16,3 +18,20 @@ returns-clause-looks g c =
     let d = state g.S.Store c.find_two-2.new.conn in
     looks_then a b d c.in_ok-find_two.field-0 (λ _. AreStoredAs write_form a.now.trees × AreStoredAs undo_form a.now.trees) c.find_two-2.result (λ db _. AreStoredAs booking_form db.trees × AreStoredAs error_form db.trees) (λ _. (AreStoredAs write_form a.now.trees × AreStoredAs undo_form a.now.trees) × (AreStoredAs booking_form a.now.trees × AreStoredAs error_form a.now.trees)) (λ here y p q. (p, q))
     c.in_ok-find_two.ensures.looks c.find_two-2.ensures.looks
+
+-- what either call tests
+abbrev Logs : Trees → Type 0
+Logs t = AreStoredAs write_form t × AreStoredAs undo_form t
+
+abbrev Board : Trees → Type 0
+Board t = AreStoredAs booking_form t × AreStoredAs error_form t
+
+pub returns-in_err-find_two-clause-cause : goal.returns-in_err-find_two-clause-cause
+returns-in_err-find_two-clause-cause g c = λ clean here rows. let told = c.find_two.ensures.cause clean here rows.0 in search rules
+
+pub returns-clause-cause : goal.returns-clause-cause
+returns-clause-cause g c =
+    let a = state g.S.Store c.args.conn.now in
+    let b = state g.S.Store c.find_two.new.conn in
+    let d = state g.S.Store c.find_two-2.new.conn in
+    looks_fail a b d c.in_ok-find_two.field-0 (λ _. Logs a.now.trees) c.find_two-2.result (λ _. Board b.now.trees) (λ t. Logs t × Board t) Board c.in_ok-find_two.ensures.looks c.find_two-2.ensures.looks (λ t both. both.1) c.find_two-2.ensures.cause

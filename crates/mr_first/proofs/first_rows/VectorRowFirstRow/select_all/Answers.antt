@@ -5,13 +5,17 @@ use Rattle.mr_rows.proofs.StatementMeaning.{all_vector_text}
 use Rattle.mr_first.proofs.FirstStatementMeaning.{all_vector_is}
 use Rattle.mr_first.proofs.ReadLemmas.{looks_so}
 use Rattle.mr_first.proofs.Selects.{sees_vector}
+use Rattle.mr_first.proofs.SureFirstTexts.{all_vector_sure}
 use Rattle.mr_first.proofs.first_rows.VectorRowFirstRow.select_all.Goals as goal
 
-pub ask_first-requires-clause-plain : goal.ask_first-requires-clause-plain
-ask_first-requires-clause-plain g c = all_vector_is.0.1
+pub ask_first-requires : goal.ask_first-requires
+ask_first-requires g c = record { plain = all_vector_is.0.1 }
 
 pub returns-clause-looks : goal.returns-clause-looks
 returns-clause-looks g c =
     let old = state g.S.Store c.args.conn.now in
     let new = state g.S.Store c.ask_first.new.conn in
     looks_so old new c.ask_first.result (λ rows. Shown all_vector_text [] old new rows.items) _ (λ here rows shown. sees_vector old new rows.items here.schema shown) c.ask_first.ensures.looks
+
+pub returns-clause-cause : goal.returns-clause-cause
+returns-clause-cause g c = c.ask_first.ensures.cause all_vector_sure
