@@ -1,5 +1,6 @@
 -- Rows that stand under the cells of their ids: what look-ups find among them, and what they are with a row put or without one.
-use Rattle.std.proofs.Common.{◌≡◌, refl, sym, ap, ◌∙◌, subst, ℕ, Bool, true, false, cond, not, ◌&&◌, ◌||◌, ◌==◌, nat_lt, List, [], ◌∷◌, ◌++◌, map, inl, inr, Some, None}
+use Rattle.std.proofs.Common.{◌≡◌, refl, sym, ap, ◌∙◌, subst, ℕ, Bool, true, false, cond, not, ◌&&◌, ◌||◌, ◌==◌, nat_lt, List, [], ◌∷◌, ◌++◌, map, inl, inr, Some, None, Result, Ok, Err}
+use Rattle.std.specs.Prelude.{OnErr}
 use Rattle.std.specs.BTreeMap.{insert_entry, is_at}
 use Rattle.std.specs.List.{AllByRecursion, filter, find, list_any}
 use Rattle.std.specs.Map.{values_of, lookup, remove_entry}
@@ -18,12 +19,14 @@ use Rattle.mr_replay.specs.Holds.{AreDistinct}
 use Rattle.mr_replay.proofs.IdKeys.{exact_ids, ids_total, at_is, same_id_equivalence}
 use Rattle.mr_tables.specs.Change.{id_before, put, rows_without}
 use Rattle.mr_tables.proofs.Putting.{InOrder, id_order, put_in_order}
-use Rattle.mr_store.specs.Keyed.{cells_of_id, IsKeyed, if_passes}
+use Rattle.mr_store.specs.Keyed.{cells_cmp, cells_of_id, IsKeyed, if_passes}
+
+-- it holds whatever the result
+pub on_err : {X E P : Type 0} (r : Result X E) → P → OnErr r P
+on_err (Ok x) p = tt
+on_err (Err e) p = p
 
 -- ---- the order of cells
-
-abbrev pub cells_cmp : ℕ × ℕ → ℕ × ℕ → Ordering
-cells_cmp a b = ordering_then (nat_cmp a.0 b.0) (nat_cmp a.1 b.1)
 
 less : (b e : Bool) → is_lt (cond b Less (cond e Equal Greater)) ≡ b
 less true e = refl
@@ -35,7 +38,7 @@ less_then true e o = refl
 less_then false true o = refl
 less_then false false o = refl
 
-before_is : (i j : Id) → is_lt (id_cmp i j) ≡ id_before i j
+pub before_is : (i j : Id) → is_lt (id_cmp i j) ≡ id_before i j
 before_is i j =
     less_then (nat_lt i.server j.server) (i.server == j.server) (nat_cmp i.n j.n)
     ∙ ap (λ x. nat_lt i.server j.server || (i.server == j.server && x)) (less (nat_lt i.n j.n) (i.n == j.n))

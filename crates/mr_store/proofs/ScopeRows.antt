@@ -43,7 +43,7 @@ above_scope t commits = ap (λ logs. with_rows t logs [] [] []) (twice (is_above
 
 -- ---- without bookings
 
-all_stay : {R : Type 0} (rows : List R) → filter (λ r. true) rows ≡ rows
+pub all_stay : {R : Type 0} (rows : List R) → filter (λ r. true) rows ≡ rows
 all_stay [] = refl
 all_stay (x ∷ rows) = ap (λ ys. x ∷ ys) (all_stay rows)
 

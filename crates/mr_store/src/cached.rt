@@ -2,12 +2,13 @@ ghost use Rattle.std.specs.Prelude.{◌≡◌, ℕ, false, IfOk, OnOk, OnErr};
 ghost use Rattle.mr_store.specs.KeeperCalls.{failures_after, IsAtomic, IsQuiet};
 ghost use Rattle.mr_store.specs.Cached.{IsMemoryAfter, IsMemoryOf, NeverFails};
 
+use crate::keeper::told;
 use crate::memory::Memory;
 use crate::{Answer, Fault, Keeper, Question};
 use mr_part::{Part, Scope};
 use mr_replica::Desk;
 use mr_tables::{Change, Tables};
-use std::alloc::Global;
+use std::alloc::{AllocError, Global};
 use std::marker::Model;
 
 /// A keeper with its rows in memory, a write-through cache. What is asked is answered from memory, and a change is made in the keeper
@@ -105,7 +106,9 @@ fn write_through<K: Keeper>(
 fn change_memory(memory: Option<Memory>, change: &Change) -> Option<Memory>
     ensures { IsMemoryAfter change.now memory result }
 {
-    memory?.changed(change)
+    let mut memory = memory?;
+    memory.apply(change).ok()?;
+    Some(memory)
 }
 
 /// Whether the store failed.
@@ -137,7 +140,8 @@ impl<K: Keeper> Keeper for Cached<K> {
         let Some(memory) = self.recall()? else {
             return self.keeper.load();
         };
-        let answer = memory.load();
+        let loaded = memory.load();
+        let answer = told(loaded);
         if is_failure(&answer) {
             return self.keeper.load();
         }
@@ -149,7 +153,8 @@ impl<K: Keeper> Keeper for Cached<K> {
         let Some(memory) = self.recall()? else {
             return self.keeper.load_part(scope);
         };
-        let answer = memory.load_part(scope);
+        let loaded = memory.load_part(scope);
+        let answer = told(loaded);
         if is_failure(&answer) {
             return self.keeper.load_part(scope);
         }
@@ -162,11 +167,11 @@ impl<K: Keeper> Keeper for Cached<K> {
             return self.keeper.query(question);
         };
         let answer = memory.query(question);
-        if is_failure(&answer) {
-            return self.keeper.query(question);
-        }
         self.memory = Some(memory);
-        answer
+        match answer {
+            Ok(answer) => Ok(answer),
+            Err(AllocError) => Err(Fault::OutOfMemory),
+        }
     }
 
     fn read(&mut self) -> Result<Tables, Fault> {
@@ -174,11 +179,11 @@ impl<K: Keeper> Keeper for Cached<K> {
             return self.keeper.read();
         };
         let answer = memory.read();
-        if is_failure(&answer) {
-            return self.keeper.read();
-        }
         self.memory = Some(memory);
-        answer
+        match answer {
+            Ok(tables) => Ok(tables),
+            Err(AllocError) => Err(Fault::OutOfMemory),
+        }
     }
 
     fn apply(&mut self, change: &Change) -> Result<(), Fault> {

@@ -8,8 +8,8 @@ use mr_base::WriteId;
 use mr_lists::rows::IdRow;
 use mr_tables::Tables;
 
-/// Whether a row has the id that a command would give, if it gives one.
-pub(crate) fn is_taken(tables: &Tables, id: Option<WriteId>) -> bool
+/// Whether a row of `log`, or one of what became of writes, has the id that a command would give, if it gives one. All rows are looked at.
+pub fn is_taken(tables: &Tables, id: Option<WriteId>) -> bool
     ensures { result ≡ is_taken id tables.now }
 {
     match id {

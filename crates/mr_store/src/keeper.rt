@@ -1,4 +1,4 @@
-ghost use Rattle.std.specs.Prelude.{◌≡◌, ◌<◌, ℕ, false, IfOk};
+ghost use Rattle.std.specs.Prelude.{◌≡◌, ◌≢◌, ◌<◌, ℕ, false, Ok, IfOk, IfErr, IsErr, OnErr};
 ghost use Rattle.std.specs.List.Sorted.{IsPermutation};
 ghost use Rattle.mr_model.specs.Replica.{Replica};
 ghost use Rattle.mr_model.specs.Tables.{Tables, Stands};
@@ -52,6 +52,20 @@ impl Fault {
         }
         *failures += 1;
         Fault::Store
+    }
+}
+
+/// The answer, where a refusal of tables is the fault that tells of it: out of memory, or that their rows break their rules.
+pub(crate) fn told<T>(answer: Result<T, Refusal>) -> Result<T, Fault>
+    ensures ok { IfOk answer (λ x. result ≡ Ok x) }
+    ensures err { OnErr answer (IsErr result) }
+    ensures memory { IfErr answer (λ e. e ≡ Refusal.OutOfMemory) → IfErr result (λ e. e ≡ Fault.OutOfMemory) }
+    ensures store { IfErr answer (λ e. e ≢ Refusal.OutOfMemory) → IfErr result (λ e. e ≡ Fault.Store) }
+{
+    match answer {
+        Ok(found) => Ok(found),
+        Err(Refusal::OutOfMemory) => Err(Fault::OutOfMemory),
+        Err(_) => Err(Fault::Store),
     }
 }
 

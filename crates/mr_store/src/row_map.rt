@@ -1,18 +1,14 @@
 ghost use Rattle.std.specs.Prelude.{◌≡◌, ◌&&◌, ◌∷◌, [], bytes_eq, filter, find, map, IfOk, OnOk, OnErr};
 ghost use Rattle.std.specs.List.{list_any};
 ghost use Rattle.std.specs.Option.{option_copied, option_to_list};
-ghost use Rattle.mr_model.specs.Writes.{same_id};
-ghost use Rattle.mr_tables.specs.Change.{id_before, put, put_all, rows_without};
+ghost use Rattle.mr_model.specs.Writes.{Id, same_id};
+ghost use Rattle.mr_tables.specs.Change.{id_before, put, rows_without};
 ghost use Rattle.mr_tables.proofs.Putting.{InOrder};
 ghost use Rattle.mr_replay.specs.Holds.{AreDistinct};
-ghost use Rattle.mr_part.specs.ScopeOf.{scope_of};
-ghost use Rattle.mr_store.specs.Needed.{is_log_needed};
 ghost use Rattle.mr_store.specs.Keyed.{cells_of_id, if_passes};
 
 use mr_base::{RoomName, ServerId, WriteId};
-use mr_lists::rows::{IdRow, TableRow};
-use mr_part::Scope;
-use mr_tables::LogRow;
+use mr_lists::rows::IdRow;
 use std::alloc::{AllocError, Global};
 use std::collections::BTreeMap;
 use std::marker::Model;
@@ -49,24 +45,20 @@ impl<R: IdRow> RowMap<R> {
         }
     }
 
-    /// These rows.
-    pub(crate) fn of(alloc: Global, rows: Vec<R>) -> Result<RowMap<R>, AllocError>
-        requires { InOrder R.before R.key rows.items }
-        ensures { IfOk result (λ map. map ≡ rows.items) }
-    {
-        let mut map = RowMap::new(alloc);
-        for row in rows {
-            map.put(row)?;
-        }
-        Ok(map)
-    }
-
     /// The row of this write.
     pub(crate) fn get(&self, id: WriteId) -> Option<&R>
         ensures row { option_copied result ≡ find (λ r. same_id (R.id r) id) self.now }
         ensures order { InOrder id_before R.id self.now }
     {
-        self.rows.get(&cells_of(id))
+        self.at_cells(cells_of(id))
+    }
+
+    /// The row of the write with these cells.
+    pub(crate) fn at_cells(&self, cells: (ServerId, u32)) -> Option<&R>
+        ensures row { (id : Id) → cells ≡ cells_of_id id → option_copied result ≡ find (λ r. same_id (R.id r) id) self.now }
+        ensures order { InOrder id_before R.id self.now }
+    {
+        self.rows.get(&cells)
     }
 
     /// Whether there is a row of this write.
@@ -83,52 +75,22 @@ impl<R: IdRow> RowMap<R> {
         let _ = &self.rows;
     }
 
-    /// Puts the row, in the place of the one of its write.
-    pub(crate) fn put(&mut self, row: R) -> Result<(), AllocError>
-        ensures { OnOk result (self.new ≡ put id_before R.id row self.old) }
-    {
-        self.rows.insert(row.cells_of_id(), row)?;
-        Ok(())
-    }
-
-    /// Takes the row of this write away, if there is one.
-    pub(crate) fn take(&mut self, id: WriteId) -> Option<R>
-        ensures row { result ≡ find (λ r. same_id (R.id r) id) self.old }
-        ensures without { self.new ≡ rows_without R.id (id ∷ []) self.old }
+    /// Puts the row, in the place of the one of its write, which is returned. If memory refuses, there was none, and the rows stay.
+    pub(crate) fn put(&mut self, row: R) -> Result<Option<R>, AllocError>
+        ensures put { OnOk result (self.new ≡ put id_before R.id row self.old) }
+        ensures old { IfOk result (λ old. old ≡ find (λ r. same_id (R.id r) (R.id row)) self.old) }
         ensures order { InOrder id_before R.id self.old }
+        ensures kept { OnErr result (self.new ≡ self.old) }
+        ensures absent { OnErr result (find (λ r. same_id (R.id r) (R.id row)) self.old ≡ None) }
     {
-        self.rows.remove(&cells_of(id))
+        Ok(self.rows.insert(row.cells_of_id(), row)?)
     }
 
-    /// Takes the rows of these writes away, and puts equal rows of the others then.
-    pub(crate) fn change(
-        &mut self,
-        alloc: Global,
-        gone: &[WriteId],
-        news: &[R],
-    ) -> Result<(), AllocError>
-        ensures { OnOk result (self.new ≡ put_all id_before R.id news.now (rows_without R.id gone.now self.old)) }
+    /// Takes the row of the write with these cells away, if there is one.
+    pub(crate) fn take(&mut self, cells: (ServerId, u32)) -> Option<R>
+        ensures { (id : Id) → cells ≡ cells_of_id id → self.new ≡ rows_without R.id (id ∷ []) self.old }
     {
-        self.take_all(gone);
-        self.put_all(alloc, news)
-    }
-
-    fn take_all(&mut self, gone: &[WriteId])
-        ensures { self.new ≡ rows_without R.id gone.now self.old }
-    {
-        for id in gone {
-            self.take(*id);
-        }
-    }
-
-    /// Puts equal rows.
-    pub(crate) fn put_all(&mut self, alloc: Global, news: &[R]) -> Result<(), AllocError>
-        ensures { OnOk result (self.new ≡ put_all id_before R.id news.now self.old) }
-    {
-        for row in news {
-            self.put(row.copied(alloc)?)?;
-        }
-        Ok(())
+        self.rows.remove(&cells)
     }
 
     /// Equal rows, in the order of their ids.
@@ -138,19 +100,6 @@ impl<R: IdRow> RowMap<R> {
         let mut rows = Vec::new(alloc);
         for row in self.rows.values() {
             rows.push(row.copied(alloc)?)?;
-        }
-        Ok(rows)
-    }
-
-    /// Copies of the rows of a room. All rows are looked at.
-    pub(crate) fn rows_in(&self, alloc: Global, room: &RoomName) -> Result<Vec<R>, AllocError>
-        ensures { IfOk result (λ rows. rows.items ≡ filter (λ r. bytes_eq (R.room r) room.now) self.now) }
-    {
-        let mut rows = Vec::new(alloc);
-        for row in self.rows.values() {
-            if row.is_in(room) {
-                rows.push(row.copied(alloc)?)?;
-            }
         }
         Ok(rows)
     }
@@ -172,36 +121,6 @@ impl<R: IdRow> RowMap<R> {
         ensures { IfOk result (λ rows. rows.items ≡ filter (λ r. same_id (R.id r) id) self.now) }
     {
         as_list(alloc, self.get(id))
-    }
-}
-
-impl RowMap<LogRow> {
-    /// Copies of the rows of the log that a command of this scope may need. All rows are looked at.
-    pub(crate) fn needed(&self, alloc: Global, scope: &Scope<'_>) -> Result<Vec<LogRow>, AllocError>
-        ensures { IfOk result (λ rows. rows.items ≡ filter (is_log_needed (scope_of scope.now)) self.now) }
-    {
-        let mut rows = Vec::new(alloc);
-        for row in self.rows.values() {
-            if is_needed(scope, row) {
-                rows.push(row.copied(alloc)?)?;
-            }
-        }
-        Ok(rows)
-    }
-}
-
-/// Whether a command of this scope may need the row.
-fn is_needed(scope: &Scope<'_>, row: &LogRow) -> bool
-    ensures { result ≡ is_log_needed (scope_of scope.now) row.now }
-{
-    match *scope {
-        Scope::NextCommits(_) => row.seq == 0,
-        Scope::UpTo(number) => row.seq >= 1 && row.seq <= number,
-        Scope::Above(commits) => row.seq == 0 || row.seq > commits,
-        Scope::Items(_) => true,
-        Scope::Nothing => false,
-        Scope::InRoom(_) => false,
-        Scope::OfTarget(_) => false,
     }
 }
 

@@ -66,6 +66,15 @@ fn refused<K: Keeper>(rt: &impl Abort, alloc: Global, keeper: &mut K, refusal: R
     count
 }
 
+// Run with an allocation that fails (`rt try --test --fail-alloc N`), one call is refused, and made when it is asked for again.
+#[test]
+fn a_call_that_memory_refuses_is_made_again(rt: HostRuntime) {
+    let alloc = rt.alloc();
+    let mut lists = opening(&rt, alloc);
+    let count = refused(&rt, alloc, &mut lists, Refusal::OutOfMemory);
+    same(&rt, &(count < 2), &true, count);
+}
+
 /// A keeper with its rows in memory over one that fails once, after so many calls.
 fn cached(rt: &impl Abort, alloc: Global, left: u64, fault: Fault) -> Cached<Tripped<ListKeeper>> {
     Cached::new(alloc, Tripped::new(opening(rt, alloc), left, fault))

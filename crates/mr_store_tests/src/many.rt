@@ -1,15 +1,16 @@
-// A keeper with its rows in memory answers as plain lists do, through more changes than it keeps beside its lists.
+// Keepers with their rows in memory answer alike through many changes, and have the rows of plain lists then.
 
-use crate::builders::{MONDAY, add, id};
+use crate::builders::{MONDAY, add, id, server};
 use crate::changes::{Booked, booking, error, meta, no_change};
 use crate::keepers::{opening, told};
 use crate::same::same;
 use mr_base::{Day, Refusal, RoomName};
+use mr_lists::lists::{change_tables, opening_tables};
 use mr_store::{Cached, Keeper, PlaceRow};
 use mr_tables::{BookingRow, Change, ErrorRow};
 use std::alloc::Global;
 
-/// A keeper with its rows in memory keeps a thousand new rows of a table beside its list.
+/// How many changes are made.
 const STEPS: u32 = 1_250;
 
 /// Who made the booking of this step: replica 2 at first, and then three in turn.
@@ -32,7 +33,7 @@ fn booked_at(step: u32) -> Booked {
     )
 }
 
-/// A booking in each step. In some also one that has moved and is committed, a logged request, or, once the new rows were too many,
+/// A booking in each step. In some also one that has moved and is committed, a logged request, or, from some step on,
 /// one that is taken away.
 fn put_at(alloc: Global, change: &mut Change, step: u32) -> Result<(), Refusal> {
     add(&mut change.booking, booking(alloc, booked_at(step)))?;
@@ -183,6 +184,39 @@ fn are_alike<A: Keeper, B: Keeper>(
         }
     }
     are_rows_alike(one, other, alloc)
+}
+
+/// The rows of this keeper behind all changes.
+fn changed_rows<K: Keeper>(keeper: &mut K, alloc: Global) -> Result<Vec<Seen>, Refusal> {
+    for step in 0..STEPS {
+        change(keeper, alloc, step)?;
+    }
+    all_rows(keeper, alloc)
+}
+
+/// The rows of plain lists behind the same changes.
+fn plain_rows(alloc: Global) -> Result<Vec<Seen>, Refusal> {
+    let mut tables = opening_tables(alloc, server(2)?, server(1)?);
+    for step in 0..STEPS {
+        let change = change_at(alloc, step)?;
+        change_tables(alloc, &mut tables, &change, false)?;
+    }
+    let mut seen = Vec::new(alloc);
+    see_bookings(&tables.booking, &mut seen)?;
+    see_errors(&tables.errorlog, &mut seen)?;
+    Ok(seen)
+}
+
+#[test]
+fn many_changes_leave_the_rows_of_plain_lists(rt: HostRuntime) {
+    let alloc = rt.alloc();
+    let mut keeper = opening(&rt, alloc);
+    same(
+        &rt,
+        &changed_rows(&mut keeper, alloc),
+        &plain_rows(alloc),
+        "lists",
+    );
 }
 
 #[test]

@@ -3,6 +3,7 @@ use Rattle.mr_model.specs.Replica.{Replica}
 use Rattle.mr_model.specs.Tables.{Stands}
 use Rattle.mr_replica.specs.Desk.{StandsFor}
 use Rattle.mr_store.proofs.Remembered.{followed, of_keeper, of_memory, remembered}
+use Rattle.mr_store.proofs.Told.{passed_on}
 use Rattle.mr_store.proofs.cached.CachedKeeper.load.Goals as goal
 
 pub returns-in_default-clause-quiet : goal.returns-in_default-clause-quiet
@@ -23,7 +24,8 @@ returns-then-is_failure-clause-loaded g c =
 
 pub returns-clause-loaded : goal.returns-clause-loaded
 returns-clause-loaded g c =
-    of_memory g.K.Keeper (λ t. (a : Replica) → Stands t a → IfOk c.load-answer.result (λ desk. StandsFor desk a)) c.args.self.now c.recall.new.self c.self.inside.keeper c.in_ok-memory.field-0 c.in-Some.memory c.in_ok-memory.ensures.quiet c.self.view_is c.in_ok-memory.ensures.rows c.in-Some.is c.load-answer.ensures.loaded
+    of_memory g.K.Keeper (λ t. (a : Replica) → Stands t a → IfOk c.told-answer.result (λ desk. StandsFor desk a)) c.args.self.now c.recall.new.self c.self.inside.keeper c.in_ok-memory.field-0 c.in-Some.memory c.in_ok-memory.ensures.quiet c.self.view_is c.in_ok-memory.ensures.rows c.in-Some.is
+    (λ a h. passed_on (λ desk. StandsFor desk a) c.load-loaded.result c.told-answer.result c.told-answer.ensures.ok c.told-answer.ensures.err (c.load-loaded.ensures.loaded a h))
 
 pub invariant_of-self-then-is_failure : goal.invariant_of-self-then-is_failure
 invariant_of-self-then-is_failure g c =

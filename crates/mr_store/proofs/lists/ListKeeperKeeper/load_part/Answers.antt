@@ -1,63 +1,36 @@
 use Rattle.std.proofs.Common.{◌≡◌, false, sym, ap, subst, ◌∙◌}
-use Rattle.std.proofs.lemmas.Bool.{true≢false}
-use Rattle.mr_model.specs.Tables.{tables_of}
-use Rattle.mr_model.specs.Scopes.{in_scope}
+use Rattle.std.specs.Prelude.{IfOk}
+use Rattle.mr_model.specs.Tables.{Stands}
 use Rattle.mr_part.specs.NextId.{id_given}
-use Rattle.mr_part.specs.Parts.{PartView, IsPartOf}
+use Rattle.mr_part.specs.Parts.{IsPartOf}
 use Rattle.mr_part.specs.ScopeOf.{scope_of}
-use Rattle.mr_store.specs.KeeperCalls.{failures_for}
-use Rattle.mr_store.specs.KeeperLists.{ListsView}
+use Rattle.mr_tables.specs.Summary.{IsWithin}
 use Rattle.mr_store.specs.Taken.{is_taken}
-use Rattle.mr_store.proofs.NextIds.{given_free}
+use Rattle.mr_store.specs.KeeperCalls.{failures_after}
+use Rattle.mr_store.specs.KeeperLists.{ListsView}
+use Rattle.mr_store.proofs.Told.{passed_on, quiet_lists}
 use Rattle.mr_store.proofs.lists.ListKeeperKeeper.load_part.Goals as goal
 
-pub returns-else-is_taken-clause-loaded : goal.returns-else-is_taken-clause-loaded
-returns-else-is_taken-clause-loaded c = λ clean opens a h. c.in-Ok.ensures.part a h.sound (ap (λ t. in_scope (scope_of c.args.scope.now) t) (ap (λ (k : ListsView). k.tables) c.self.view_is ∙ h.are))
+pub returns-clause-quiet : goal.returns-clause-quiet
+returns-clause-quiet c =
+    let tables = ap (λ (k : ListsView). k.tables) c.self.view_is in
+    quiet_lists c.args.self.now (record { tables = c.self.inside.memory; failures = c.counted.new.failures }) c.counted.result tables
+    (c.counted.ensures.counted ∙ ap (λ (k : ListsView). failures_after c.counted.result k.failures) c.self.view_is)
+    (λ a h. c.counted.ensures.memory (c.told.ensures.memory (c.load_part.ensures.only a (subst (λ t. Stands t a) (sym tables) h))) ∙ ap (λ (k : ListsView). k.failures) c.self.view_is)
 
-pub returns-else-is_taken-clause-free : goal.returns-else-is_taken-clause-free
-returns-else-is_taken-clause-free c = λ clean opens.
-    ap (λ t. is_taken (id_given (scope_of c.args.scope.now) c.in-Ok.part.summary) t) (sym (ap (λ (k : ListsView). k.tables) c.self.view_is))
-    ∙ ap (λ id. is_taken id c.self.inside.tables) (sym c.id_given.ensures) ∙ sym c.is_taken.ensures ∙ c.if-is_taken.false
+pub returns-clause-loaded : goal.returns-clause-loaded
+returns-clause-loaded c = λ clean opens a h.
+    passed_on (λ part. IsPartOf part (scope_of c.args.scope.now) a) c.told.result c.counted.result c.counted.ensures.ok c.counted.ensures.err
+    (passed_on (λ part. IsPartOf part (scope_of c.args.scope.now) a) c.load_part.result c.told.result c.told.ensures.ok c.told.ensures.err
+    (c.load_part.ensures.loaded a (subst (λ t. Stands t a) (sym (ap (λ (k : ListsView). k.tables) c.self.view_is)) h)))
 
--- a row has the id that the command would give, as in no replica's tables
-pub returns-then-is_taken-clause-quiet : goal.returns-then-is_taken-clause-quiet
-returns-then-is_taken-clause-quiet c =
-    let scope = scope_of c.args.scope.now in
-    let counted : c.counted.new.failures ≡ failures_for c.counted.result c.args.self.now.failures =
-    c.counted.ensures.counted ∙ ap (λ (k : ListsView). failures_for c.counted.result k.failures) c.self.view_is
-    in
-    record {
-      clean = λ u. tt;
-      opens = λ u o. tt;
-      lasts = λ u o. tt;
-      same = λ u o. ap (λ (k : ListsView). k.tables) c.self.view_is;
-      counts = counted;
-      sure = λ never a h.
-          let are : c.self.inside.tables ≡ tables_of a = ap (λ (k : ListsView). k.tables) c.self.view_is ∙ h.are in
-          let part : IsPartOf c.in-Ok.part scope a = c.in-Ok.ensures.part a h.sound (ap (in_scope scope) are) in
-          let free : is_taken (id_given scope c.in-Ok.part.summary) c.self.inside.tables ≡ false =
-          subst (λ s. is_taken (id_given scope s) c.self.inside.tables ≡ false) (sym (ap (λ (p : PartView). p.summary) part))
-          (given_free scope c.self.inside.tables a (record { sound = h.sound; are = are })) in
-          absurd (true≢false (sym c.if-is_taken.true ∙ c.is_taken.ensures ∙ ap (λ id. is_taken id c.self.inside.tables) c.id_given.ensures ∙ free));
-      crash = λ u o t left. left ∙ ap (λ (k : ListsView). k.tables) c.self.view_is;
-      settled = λ u o before t left. left;
-    }
+pub returns-clause-free : goal.returns-clause-free
+returns-clause-free c = λ clean opens.
+    subst (λ t. IfOk c.counted.result (λ part. is_taken (id_given (scope_of c.args.scope.now) part.summary) t ≡ false)) (ap (λ (k : ListsView). k.tables) c.self.view_is)
+    (passed_on (λ part. is_taken (id_given (scope_of c.args.scope.now) part.summary) c.self.inside.memory ≡ false) c.told.result c.counted.result c.counted.ensures.ok c.counted.ensures.err
+    (passed_on (λ part. is_taken (id_given (scope_of c.args.scope.now) part.summary) c.self.inside.memory ≡ false) c.load_part.result c.told.result c.told.ensures.ok c.told.ensures.err c.load_part.ensures.free))
 
-pub returns-in-Err-clause-quiet : goal.returns-in-Err-clause-quiet
-returns-in-Err-clause-quiet c =
-    let counted : c.fault_of.new.failures ≡ failures_for c.fault_of.result c.args.self.now.failures =
-    c.fault_of.ensures.counted ∙ ap (λ (k : ListsView). failures_for c.fault_of.result k.failures) c.self.view_is
-    in
-    record {
-      clean = λ u. tt;
-      opens = λ u o. tt;
-      lasts = λ u o. tt;
-      same = λ u o. ap (λ (k : ListsView). k.tables) c.self.view_is;
-      counts = counted;
-      sure = λ never a h.
-          let are : c.self.inside.tables ≡ tables_of a = ap (λ (k : ListsView). k.tables) c.self.view_is ∙ h.are in
-          let wants = c.fault_of.ensures.memory (c.in-Err.ensures.only a h.sound (ap (λ t. in_scope (scope_of c.args.scope.now) t) are)) in
-          counted ∙ ap (λ fault. failures_for fault c.args.self.now.failures) wants;
-      crash = λ u o t left. left ∙ ap (λ (k : ListsView). k.tables) c.self.view_is;
-      settled = λ u o before t left. left;
-    }
+pub returns-clause-within : goal.returns-clause-within
+returns-clause-within c =
+    passed_on (λ part. IsWithin part.summary) c.told.result c.counted.result c.counted.ensures.ok c.counted.ensures.err
+    (passed_on (λ part. IsWithin part.summary) c.load_part.result c.told.result c.told.ensures.ok c.told.ensures.err c.load_part.ensures.within)

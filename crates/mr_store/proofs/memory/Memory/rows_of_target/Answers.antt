@@ -14,8 +14,8 @@ returns c =
     let target = c.args.target in
     let scope = target_scope t target c.in_ok-booking.booking.items c.in_ok-errorlog.errorlog.items c.in_ok-cancelled.cancelled.items
     (c.in_ok-booking.ensures ∙ ap (filter (λ (r : BookingRow). same_id (booking_id r) target)) (c.rows.ensures ∙ ap (λ (u : Tables). u.booking) c.self.view_is))
-    (c.in_ok-errorlog.ensures ∙ ap (λ (u : Tables). filter (λ (r : ErrorRow). same_id (error_id r) target) u.errorlog) c.self.view_is)
-    (c.in_ok-cancelled.ensures ∙ ap (λ (u : Tables). filter (λ (r : CancelledRow). same_id (cancelled_id r) target) u.cancelled) c.self.view_is) in
+    (c.in_ok-errorlog.ensures ∙ ap (filter (λ (r : ErrorRow). same_id (error_id r) target)) (c.rows-2.ensures ∙ ap (λ (u : Tables). u.errorlog) c.self.view_is))
+    (c.in_ok-cancelled.ensures ∙ ap (filter (λ (r : CancelledRow). same_id (cancelled_id r) target)) (c.rows-3.ensures ∙ ap (λ (u : Tables). u.cancelled) c.self.view_is)) in
     IfOk-weaker c.with_rows.result
     (λ u. u ≡ with_rows t c.new.result.items c.in_ok-booking.booking.items c.in_ok-errorlog.errorlog.items c.in_ok-cancelled.cancelled.items)
     (λ u. in_scope (OfTarget target) u ≡ in_scope (OfTarget target) t)

@@ -1,12 +1,4 @@
-use Rattle.std.proofs.Common.{ap, ◌∙◌}
-use Rattle.std.specs.BTreeMap.{is_at}
-use Rattle.std.specs.Map.{lookup}
-use Rattle.std.specs.List.{find}
-use Rattle.mr_model.specs.Writes.{same_id}
-use Rattle.mr_store.proofs.RowsById.{cells_cmp, found}
 use Rattle.mr_store.proofs.row_map.RowMap.get.Goals as goal
 
 pub returns-clause-row : goal.returns-clause-row
-returns-clause-row g c =
-    let id = g.R.IdRow.id in
-    c.get.ensures.value ∙ ap (λ k. lookup (is_at (cells_cmp k)) c.self.inside.rows.entries) c.cells_of.ensures ∙ found id c.self.inside.rows.entries c.args.id c.self.invariant ∙ ap (find (λ r. same_id (id r) c.args.id)) c.self.view_is
+returns-clause-row g c = c.at_cells.ensures.row c.args.id c.cells_of.ensures

@@ -4,7 +4,8 @@ use Rattle.std.specs.Map.{lookup}
 use Rattle.std.specs.Option.{is_some}
 use Rattle.std.specs.List.{list_any}
 use Rattle.mr_model.specs.Writes.{same_id}
-use Rattle.mr_store.proofs.RowsById.{cells_cmp, any_keyed}
+use Rattle.mr_store.proofs.RowsById.{any_keyed}
+use Rattle.mr_store.specs.Keyed.{cells_cmp}
 use Rattle.mr_store.proofs.row_map.RowMap.has.Goals as goal
 
 pub returns : goal.returns

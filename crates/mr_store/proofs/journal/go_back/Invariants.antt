@@ -1,0 +1,12 @@
+use Rattle.std.proofs.Common.{List, length, reverse}
+use Rattle.mr_store.specs.Journal.{AreSteps}
+use Rattle.mr_store.specs.RowKeys.{IsNoted}
+use Rattle.mr_store.proofs.journal.go_back.Given as goal
+
+-- the steps that are left lead to what is there now
+abbrev pub invariant-loop-cells : goal.invariant-loop-cells
+invariant-loop-cells g l =
+    (before : List g.row.R.Denot) → AreSteps g.R.IdRow.id (IsNoted g.R.KeyedRow.second_key l.fn.table.keys) (reverse l.fn.puts.items) before l.fn.table.rows → AreSteps g.R.IdRow.id (IsNoted g.R.KeyedRow.second_key l.table.keys) (reverse l.left.items) before l.table.rows
+
+abbrev pub decreases-loop-cells : goal.decreases-loop-cells
+decreases-loop-cells g l = length l.left.items

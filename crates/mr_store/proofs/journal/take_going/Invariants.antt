@@ -1,0 +1,11 @@
+use Rattle.std.proofs.Common.{◌≡◌, length}
+use Rattle.mr_store.specs.Journal.{is_going, rows_but}
+use Rattle.mr_store.proofs.journal.take_going.Given as goal
+
+-- without the rows that are still to go it comes to what is without all of them
+abbrev pub invariant-loop-cells : goal.invariant-loop-cells
+invariant-loop-cells g l =
+    rows_but g.R.IdRow.id (is_going l.left) l.table.rows ≡ rows_but g.R.IdRow.id (is_going l.fn.going) l.fn.table.rows
+
+abbrev pub decreases-loop-cells : goal.decreases-loop-cells
+decreases-loop-cells g l = length l.left.keys
