@@ -8,7 +8,7 @@ ghost use Rattle.mr.specs.Tasks.{EndsAsking, EndsAskingEither, EndsInit, IsAnswe
 ghost use Rattle.mr.specs.CommandEffects.{TellsFault};
 
 use crate::asking::perform;
-use crate::tasks::only_reads;
+use crate::tasks::{needs_rows, only_reads};
 use mr_base::ServerId;
 use mr_say::{DONE, say, say_refusal};
 use mr_service::Service;
@@ -72,7 +72,7 @@ fn on_copy<W: Write>(rt: &HostRuntime, alloc: Global, database: &str, task: Task
     ensures { EndsAskingEither ⟦<FileKeeper as Keeper>⟧ ⟦<CopyKeeper as Keeper>⟧ (IsCommandFor task) (TellsTo (file_for task))
         (W.contents out.old) (W.contents out.new) result }
 {
-    match SqlKeeper::open_copy(rt, database) {
+    match SqlKeeper::open_copy(rt, database, needs_rows(&task)) {
         Ok(keeper) => {
             let (_copy, status) = on_keeper(rt, alloc, keeper, task, out);
             status

@@ -24,6 +24,14 @@ pub(crate) fn only_reads(task: &Task) -> bool
     }
 }
 
+/// Whether the task needs rows of writes that no query picks, so that those which an open reads are worth keeping.
+pub(crate) fn needs_rows(task: &Task) -> bool {
+    match task {
+        Task::Local(_) | Task::Import { .. } => false,
+        Task::Export { .. } => true,
+    }
+}
+
 /// Whether the command is a question.
 fn is_question(local: &Local) -> bool
     ensures { IsTrue result → OnlyReads (local_of local.now) }

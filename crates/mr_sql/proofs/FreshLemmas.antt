@@ -1,5 +1,5 @@
 -- Rows that an open read, and that are still there.
-use Rattle.std.proofs.Common.{◌≡◌, Option, None, Some, Ok, Err, Result, Bool, IfOk, IfSome, IsTrue, refl, ◌∙◌}
+use Rattle.std.proofs.Common.{◌≡◌, Option, None, Some, Ok, Err, Result, Bool, true, false, if◌then◌else◌, IfOk, IsTrue, refl, sym, subst}
 use Rattle.sqlite.specs.declared.error.Error.{Error}
 use Rattle.sqlite.specs.State.{State, HasCleanDisk}
 use Rattle.mr_model.specs.Tables.{Tables}
@@ -14,6 +14,9 @@ uses_same a (Ok x) P told = (survives_itself a _, λ clean now. (now, λ held. (
 uses_same a (Err e) P told = (survives_itself a _, λ clean now. (now, λ held. (refl, refl)), λ clean held. (tt, tt))
 
 -- rows that were kept are those that are there
-pub fresh_of : (rows : Option Tables) (t : Tables) (keep : Bool) (s : State) → IfSome rows (λ kept. (kept ≡ t) × IsTrue keep) → (IsTrue keep → t ≡ tables_in s.now.trees) → AreFresh rows s
-fresh_of None t keep s of is = tt
-fresh_of (Some rows) t keep s of is = of.0 ∙ is of.1
+pub fresh_of : (rows : Option Tables) (t : Tables) (keep : Bool) (s : State) → rows ≡ (if keep then Some t else None) → (IsTrue keep → t ≡ tables_in s.now.trees) → AreFresh rows s
+fresh_of rows t keep s is of = subst (λ r. AreFresh r s) (sym is) (go keep of)
+  where
+    go : (b : Bool) → (IsTrue b → t ≡ tables_in s.now.trees) → AreFresh (if b then Some t else None) s
+    go true of = of refl
+    go false of = tt

@@ -1,14 +1,12 @@
-pub mod StampLemmas
-pub mod LogLemmas
-pub mod ScopeLemmas
 pub mod CreateLemmas
 pub mod AnswerLemmas
 pub mod QuestionLemmas
-pub mod NextIdLemmas
 pub mod OpeningLemmas
 pub mod TakenLemmas
+pub mod FailedLemmas
 pub mod CrashLemmas
 pub mod FreshLemmas
+pub mod FailedReads
 pub mod NumberLemmas
 pub mod FirstTaken
 pub mod FileLemmas

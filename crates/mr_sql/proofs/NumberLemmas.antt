@@ -1,11 +1,13 @@
 -- The number of the schema in the row of `meta`, under either schema.
 use Rattle.std.proofs.Common.{◌≡◌, ◌≢◌, inl, inr, ℕ, pos, ◌<◌, List, [], ◌∷◌, map, length, Result, IfOk, IfErr, IsTrue, refl, sym, ap, subst, ◌∙◌, arith}
+use Rattle.std.specs.Prelude.{⊤}
 use Rattle.std.specs.List.Sorted.{IsPermutation}
 use Rattle.std.proofs.lemmas.List.Sorted.{length_permutation}
 use Rattle.sqlite_value.specs.declared.value.Value.TheVariants.{Int}
 use Rattle.sqlite_value.specs.Order.{Row, column}
 use Rattle.sqlite_trees.specs.Tree.{Trees}
 use Rattle.sqlite_schema.specs.declared.schema.Schema.{Schema}
+use Rattle.sqlite_tied.specs.Compute.{everything}
 use Rattle.sqlite.specs.declared.error.Error.{Error}
 use Rattle.sqlite.specs.Given.{IsPlain}
 use Rattle.sqlite.specs.Listing.{understood}
@@ -13,6 +15,10 @@ use Rattle.sqlite.specs.State.{State, HasCleanDisk, Shown, FailsToQuery, Survive
 use Rattle.mr_model.specs.Dropped.{Has}
 use Rattle.mr_rows.specs.Shown.{columns_from}
 use Rattle.mr_rows.specs.Reads.{IsPlacedIn, ReadsWhere}
+use Rattle.mr_rows.specs.Schema.{first_schema}
+use Rattle.mr_rows.specs.Causes.{FailsByStoreIn, IsSureIn}
+use Rattle.mr_rows.proofs.CauseLemmas.{asked_fails_in}
+use Rattle.mr_rows.proofs.SureTexts.{sure_text_in, all_meta_sure}
 use Rattle.mr_rows.proofs.FirstLemmas.{has_moved}
 use Rattle.mr_rows.proofs.QueryLemmas.{asked_where, told_where}
 use Rattle.mr_rows.proofs.SelectLemmas.{sees_all_meta}
@@ -40,6 +46,18 @@ pub meta_looked : {X : Type 0} (under : Schema) → IsOfTwo under → (old new :
 meta_looked under two old new items r ok err survives =
     told_where (IsPlacedIn under) old new r (λ x. Shown second.all_meta_text [] old new (items x)) _ (λ here x shown. meta_seen under two old new (items x) here.schema shown)
     (asked_where second.all_meta_text [] old new (meta_plain under two) (IsPlacedIn under) (λ here. here) items r ok err survives)
+
+-- that question is one that only the store makes fail
+first_sure : IsSureIn first_schema second.all_meta_text []
+unfolding understood everything
+first_sure = sure_text_in first_schema second.all_meta_text [] 0 [] second.meta_columns second.meta_names first.all_meta_is refl refl
+
+meta_sure : (under : Schema) → IsOfTwo under → IsSureIn under second.all_meta_text []
+meta_sure under (inl is) = subst (λ schema. IsSureIn schema second.all_meta_text []) (sym is) all_meta_sure
+meta_sure under (inr is) = subst (λ schema. IsSureIn schema second.all_meta_text []) (sym is) first_sure
+
+pub meta_fails : {X : Type 0} (under : Schema) → IsOfTwo under → (old new : State) (r : Result X Error) → (HasCleanDisk new → IfErr r (FailsToQuery second.all_meta_text [] old new)) → FailsByStoreIn under (λ _. ⊤) old new r
+meta_fails under two old new r err = asked_fails_in under second.all_meta_text [] old new r (meta_plain under two) err (meta_sure under two)
 
 -- where one row is shown, the table has one
 one_row : (rows : List Row) (r : Row) → IsPermutation (map (columns_from 1 7) rows) (r ∷ []) → (s : Row) × (rows ≡ s ∷ []) × (columns_from 1 7 s ≡ r)

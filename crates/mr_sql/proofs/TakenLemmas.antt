@@ -96,10 +96,6 @@ pub failed_of : {X E : Type 0} (r : Result X E) (P Q : E → Type 0) → ((e : E
 failed_of (Ok x) P Q way h = tt
 failed_of (Err e) P Q way h = way e h
 
-pub failed_of_two : {X E : Type 0} (r : Result X E) (P Q R : E → Type 0) → ((e : E) → P e → Q e → R e) → IfErr r P → IfErr r Q → IfErr r R
-failed_of_two (Ok x) P Q R way h k = tt
-failed_of_two (Err e) P Q R way h k = way e h k
-
 -- of each refusal
 pub err_all : {X E : Type 0} (r : Result X E) (P : E → Type 0) → ((e : E) → P e) → IfErr r P
 err_all (Ok x) P all = tt

@@ -1,7 +1,9 @@
-ghost use Rattle.std.specs.Prelude.{◌≡◌, ◌⊎◌, false, None, IfOk, IfErr, IfSome, OnOk, OnErr, IsTrue};
+ghost use Rattle.std.specs.Prelude.{◌≡◌, ◌≢◌, ◌⊎◌, false, if◌then◌else◌, None, Some, IfOk, IfErr, OnOk, OnErr, IsTrue};
+ghost use Rattle.sqlite_disk.specs.Disk.{MoreFaults};
 ghost use Rattle.sqlite_trees.specs.Tree.{Trees};
 ghost use Rattle.sqlite_trees.specs.View.{IsClean};
 ghost use Rattle.sqlite_catalog.specs.Listing.{IsSound};
+ghost use Rattle.sqlite_schema.specs.declared.schema.Schema.{Schema};
 ghost use Rattle.sqlite.specs.State.{HasCleanDisk, Survives};
 ghost use Rattle.sqlite.specs.Held.{state};
 ghost use Rattle.mr_rows.specs.Schema.{no_schema, our_schema};
@@ -9,6 +11,7 @@ ghost use Rattle.mr_rows.specs.Database.{IsKept, tables_in};
 ghost use Rattle.mr_sql.specs.Found.{AreFresh, IsTaken, IsTakenAs, IsFound, IsAdopted, IsResumed, Names, StaysAs};
 ghost use Rattle.mr_rows.specs.Shown.{IsMeta};
 ghost use Rattle.mr_sql.specs.Refused.{AreSomebodys, HasNoMeta, IsAnothers, IsNobodys};
+ghost use Rattle.mr_sql.specs.Failed.{StoreFailed, HoldReplica};
 
 use crate::create::create;
 use crate::faults::refusal_of;
@@ -16,6 +19,7 @@ use crate::first::{adopt_first_tables, recover_first};
 use crate::schema_number::check_number;
 use crate::schemas::{is_blank, is_ours};
 use mr_base::{Refusal, ServerId};
+use mr_rows::Idle;
 use mr_rows::found::find_all;
 use mr_tables::{MetaRow, Tables};
 use sqlite::{Alter, Connection, Error, ErrorCode};
@@ -25,30 +29,30 @@ use std::alloc::Global;
 pub(crate) fn retaken<S: Alter + Drop>(
     alloc: Global,
     conn: Connection<S>,
-) -> Result<Connection<S>, (Error, S)>
+) -> Result<Idle<S>, (Error, S)>
     ensures taken { IfOk result (λ c. HasCleanDisk (state S.Store c) → IsTaken (state S.Store conn).committed.trees (state S.Store c)) }
-    ensures autocommit { IfOk result (λ c. c.in_transaction ≡ false) }
+    ensures unlimited { IfOk result (λ c. (state S.Store c).step_limit ≡ None) }
     ensures clean { IfOk result (λ c. HasCleanDisk (state S.Store c) → HasCleanDisk (state S.Store conn)) }
     ensures crash { IfErr result (λ e. (trees : Trees) → S.Store.recovers e.1 trees → (state S.Store conn).may_leave trees) }
     ensures back { IfErr result
         (λ e. IsClean (S.Store.view e.1) → IsTrue (S.Store.view e.1).is_open → (S.Store.view e.1).trees ≡ (state S.Store conn).committed.trees) }
+    ensures failed { IfErr result
+        (λ e. IsClean (S.Store.view e.1) → (schema : Schema) → IsSound schema (state S.Store conn).committed.trees → e.0 ≢ Error.SqliteFailure ErrorCode.OutOfMemory
+        → MoreFaults (state S.Store conn).faults (S.Store.faults e.1) ⊎ ((state S.Store conn).is_open ≡ false)) }
 {
     let store = conn.into_store();
     if store.is_broken() {
         return Err((Error::SqliteFailure(ErrorCode::Closed), store));
     }
-    Connection::over(alloc, store)
+    match Connection::over(alloc, store) {
+        Ok(connection) => Ok(Idle { connection }),
+        Err(refused) => Err(refused),
+    }
 }
 
 // Makes the tables of a replica that knows nothing yet.
-fn begin<S: Alter>(
-    conn: &mut Connection<S>,
-    server: ServerId,
-    primary: ServerId,
-) -> Result<(), Refusal>
-    requires autocommit { conn.old.in_transaction ≡ false }
+fn begin<S: Alter>(conn: &mut Idle<S>, server: ServerId, primary: ServerId) -> Result<(), Refusal>
     requires blank { (state S.Store conn.old).now.schema ≡ no_schema }
-    ensures autocommit { conn.new.in_transaction ≡ false }
     ensures clean { HasCleanDisk (state S.Store conn.new) → HasCleanDisk (state S.Store conn.old) }
     ensures begun { (trees : Trees) → HasCleanDisk (state S.Store conn.new) → IsTaken trees (state S.Store conn.old)
         → OnOk result (IsTrue (state S.Store conn.new).is_open → IsKept (state S.Store conn.new)
@@ -73,13 +77,7 @@ fn begin<S: Alter>(
 
 // Finds the tables of a database with our schema, all of whose rows are tested, with their rows if these are to be kept. They are refused if there is
 // no row of `meta`.
-fn find_row<S: Alter>(
-    conn: &mut Connection<S>,
-    alloc: Global,
-    keep: bool,
-) -> Result<Tables, Refusal>
-    requires autocommit { conn.old.in_transaction ≡ false }
-    ensures autocommit { conn.new.in_transaction ≡ false }
+fn find_row<S: Alter>(conn: &mut Idle<S>, alloc: Global, keep: bool) -> Result<Tables, Refusal>
     ensures clean { HasCleanDisk (state S.Store conn.new) → HasCleanDisk (state S.Store conn.old) }
     ensures found { (trees : Trees) → HasCleanDisk (state S.Store conn.new) → IsTakenAs our_schema trees (state S.Store conn.old)
         → IfOk result (λ tables. IsTrue (state S.Store conn.new).is_open → IsFound trees tables.meta (state S.Store conn.new)) }
@@ -93,6 +91,8 @@ fn find_row<S: Alter>(
         → IfErr result (λ e. e ≡ Refusal.NotAReplica → IsMeta trees None) }
     ensures survives { Survives (state S.Store conn.old) (state S.Store conn.new)
         (λ _. (trees : Trees) → IsTakenAs our_schema trees (state S.Store conn.old) → ⊥) }
+    ensures failed { (trees : Trees) → HasCleanDisk (state S.Store conn.new) → IsTakenAs our_schema trees (state S.Store conn.old) → HoldReplica trees
+        → IfErr result (λ e. e ≡ Refusal.Store → StoreFailed (state S.Store conn.old) (state S.Store conn.new)) }
     ensures cause { IfErr result (λ e. (e ≡ Refusal.OutOfMemory) ⊎ ((e ≡ Refusal.Store) ⊎ (e ≡ Refusal.NotAReplica))) }
 {
     match find_all(conn, alloc, keep) {
@@ -104,9 +104,7 @@ fn find_row<S: Alter>(
 
 /// Finds the tables of a database with our schema, with their rows if these are to be kept. They are refused if there is no row of `meta`, or one of
 /// another schema.
-fn find<S: Alter>(conn: &mut Connection<S>, alloc: Global, keep: bool) -> Result<Tables, Refusal>
-    requires autocommit { conn.old.in_transaction ≡ false }
-    ensures autocommit { conn.new.in_transaction ≡ false }
+fn find<S: Alter>(conn: &mut Idle<S>, alloc: Global, keep: bool) -> Result<Tables, Refusal>
     ensures clean { HasCleanDisk (state S.Store conn.new) → HasCleanDisk (state S.Store conn.old) }
     ensures found { (trees : Trees) → HasCleanDisk (state S.Store conn.new) → IsTakenAs our_schema trees (state S.Store conn.old)
         → IfOk result (λ tables. IsTrue (state S.Store conn.new).is_open → IsFound trees tables.meta (state S.Store conn.new)) }
@@ -120,6 +118,8 @@ fn find<S: Alter>(conn: &mut Connection<S>, alloc: Global, keep: bool) -> Result
         → IfErr result (λ e. e ≡ Refusal.NotAReplica → HasNoMeta 2 trees) }
     ensures survives { Survives (state S.Store conn.old) (state S.Store conn.new)
         (λ _. (trees : Trees) → IsTakenAs our_schema trees (state S.Store conn.old) → ⊥) }
+    ensures failed { (trees : Trees) → HasCleanDisk (state S.Store conn.new) → IsTakenAs our_schema trees (state S.Store conn.old) → HoldReplica trees
+        → IfErr result (λ e. e ≡ Refusal.Store → StoreFailed (state S.Store conn.old) (state S.Store conn.new)) }
     ensures cause { IfErr result (λ e. (e ≡ Refusal.OutOfMemory) ⊎ ((e ≡ Refusal.Store) ⊎ (e ≡ Refusal.NotAReplica))) }
 {
     check_number(conn, 2)?;
@@ -128,7 +128,7 @@ fn find<S: Alter>(conn: &mut Connection<S>, alloc: Global, keep: bool) -> Result
 
 // The tables, if their rows were to be kept.
 fn kept(tables: Tables, keep: bool) -> Option<Tables>
-    ensures { IfSome result (λ kept. (kept ≡ tables) × IsTrue keep) }
+    ensures { result ≡ (if keep then Some tables else None) }
 {
     if keep { Some(tables) } else { None }
 }
@@ -143,15 +143,13 @@ pub(crate) fn is_of(meta: &MetaRow, server: ServerId, primary: ServerId) -> bool
 
 // Finds the tables of this server and primary, and answers their rows if these are to be kept.
 fn resume<S: Alter>(
-    conn: &mut Connection<S>,
+    conn: &mut Idle<S>,
     alloc: Global,
     server: ServerId,
     primary: ServerId,
     keep: bool,
 ) -> Result<Option<Tables>, Refusal>
-    requires autocommit { conn.old.in_transaction ≡ false }
     requires ours { (state S.Store conn.old).now.schema ≡ our_schema }
-    ensures autocommit { conn.new.in_transaction ≡ false }
     ensures clean { HasCleanDisk (state S.Store conn.new) → HasCleanDisk (state S.Store conn.old) }
     ensures resumed { (trees : Trees) → HasCleanDisk (state S.Store conn.new) → IsTaken trees (state S.Store conn.old)
         → OnOk result (IsTrue (state S.Store conn.new).is_open → IsKept (state S.Store conn.new)
@@ -166,6 +164,8 @@ fn resume<S: Alter>(
         → IfErr result (λ e. e ≡ Refusal.NotAReplica → IsAnothers server primary trees) }
     ensures survives { Survives (state S.Store conn.old) (state S.Store conn.new)
         (λ db. (trees : Trees) → IsTaken trees (state S.Store conn.old) → IsAdopted server primary trees db) }
+    ensures failed { (trees : Trees) → HasCleanDisk (state S.Store conn.new) → IsTaken trees (state S.Store conn.old) → HoldReplica trees
+        → IfErr result (λ e. e ≡ Refusal.Store → StoreFailed (state S.Store conn.old) (state S.Store conn.new)) }
     ensures cause { IfErr result (λ e. (e ≡ Refusal.OutOfMemory) ⊎ ((e ≡ Refusal.Store) ⊎ (e ≡ Refusal.NotAReplica))) }
 {
     let tables = find(conn, alloc, keep)?;
@@ -178,14 +178,12 @@ fn resume<S: Alter>(
 
 // Of a database that hasn't our tables: makes those of this server and primary if there are none, or moves those of the first schema up.
 fn settle<S: Alter>(
-    conn: &mut Connection<S>,
+    conn: &mut Idle<S>,
     alloc: Global,
     server: ServerId,
     primary: ServerId,
 ) -> Result<(), Refusal>
-    requires autocommit { conn.old.in_transaction ≡ false }
     requires others { (state S.Store conn.old).now.schema ≡ our_schema → ⊥ }
-    ensures autocommit { conn.new.in_transaction ≡ false }
     ensures clean { HasCleanDisk (state S.Store conn.new) → HasCleanDisk (state S.Store conn.old) }
     ensures settled { (trees : Trees) → HasCleanDisk (state S.Store conn.new) → IsTaken trees (state S.Store conn.old)
         → OnOk result (IsTrue (state S.Store conn.new).is_open → IsKept (state S.Store conn.new)
@@ -211,14 +209,12 @@ fn settle<S: Alter>(
 /// Makes the tables of this server and primary if there are none, or finds them, and moves those of the first schema up. If they were found as
 /// they are, and their rows are to be kept, it answers these.
 pub(crate) fn adopt_tables<S: Alter>(
-    conn: &mut Connection<S>,
+    conn: &mut Idle<S>,
     alloc: Global,
     server: ServerId,
     primary: ServerId,
     keep: bool,
 ) -> Result<Option<Tables>, Refusal>
-    requires autocommit { conn.old.in_transaction ≡ false }
-    ensures autocommit { conn.new.in_transaction ≡ false }
     ensures clean { HasCleanDisk (state S.Store conn.new) → HasCleanDisk (state S.Store conn.old) }
     ensures settled { (trees : Trees) → HasCleanDisk (state S.Store conn.new) → IsTaken trees (state S.Store conn.old)
         → OnOk result (IsTrue (state S.Store conn.new).is_open → IsKept (state S.Store conn.new)
@@ -235,26 +231,24 @@ pub(crate) fn adopt_tables<S: Alter>(
         → IfErr result (λ e. e ≡ Refusal.Store → IsSound no_schema trees ⊎ AreSomebodys trees) }
     ensures survives { Survives (state S.Store conn.old) (state S.Store conn.new)
         (λ db. (trees : Trees) → IsTaken trees (state S.Store conn.old) → IsAdopted server primary trees db) }
+    ensures failed { (trees : Trees) → HasCleanDisk (state S.Store conn.new) → IsTaken trees (state S.Store conn.old) → HoldReplica trees
+        → IfErr result (λ e. e ≡ Refusal.Store → StoreFailed (state S.Store conn.old) (state S.Store conn.new)) }
     ensures cause { IfErr result (λ e. (e ≡ Refusal.OutOfMemory) ⊎ ((e ≡ Refusal.Store) ⊎ (e ≡ Refusal.NotAReplica))) }
 {
     if is_ours(conn) {
         return resume(conn, alloc, server, primary, keep);
     }
-    match settle(conn, alloc, server, primary) {
-        Ok(()) => Ok(None),
-        Err(refusal) => Err(refusal),
-    }
+    settle(conn, alloc, server, primary)?;
+    Ok(None)
 }
 
 /// Finds the tables of a replica, whichever it is, and moves those of the first schema up. If they were found as they are, and their rows are to
 /// be kept, it answers these.
 pub(crate) fn recover<S: Alter>(
-    conn: &mut Connection<S>,
+    conn: &mut Idle<S>,
     alloc: Global,
     keep: bool,
 ) -> Result<Option<Tables>, Refusal>
-    requires autocommit { conn.old.in_transaction ≡ false }
-    ensures autocommit { conn.new.in_transaction ≡ false }
     ensures clean { HasCleanDisk (state S.Store conn.new) → HasCleanDisk (state S.Store conn.old) }
     ensures recovered { (trees : Trees) → HasCleanDisk (state S.Store conn.new) → IsTaken trees (state S.Store conn.old)
         → OnOk result (IsTrue (state S.Store conn.new).is_open → IsKept (state S.Store conn.new) × IsResumed trees (state S.Store conn.new).now.trees) }
@@ -270,14 +264,14 @@ pub(crate) fn recover<S: Alter>(
         → IfErr result (λ e. e ≡ Refusal.Store → AreSomebodys trees) }
     ensures survives { Survives (state S.Store conn.old) (state S.Store conn.new)
         (λ db. (trees : Trees) → IsTaken trees (state S.Store conn.old) → IsResumed trees db) }
+    ensures failed { (trees : Trees) → HasCleanDisk (state S.Store conn.new) → IsTaken trees (state S.Store conn.old) → HoldReplica trees
+        → IfErr result (λ e. e ≡ Refusal.Store → StoreFailed (state S.Store conn.old) (state S.Store conn.new)) }
     ensures cause { IfErr result (λ e. (e ≡ Refusal.OutOfMemory) ⊎ ((e ≡ Refusal.Store) ⊎ (e ≡ Refusal.NotAReplica))) }
 {
     if is_ours(conn) {
         let tables = find(conn, alloc, keep)?;
         return Ok(kept(tables, keep));
     }
-    match recover_first(conn, alloc) {
-        Ok(()) => Ok(None),
-        Err(refusal) => Err(refusal),
-    }
+    recover_first(conn, alloc)?;
+    Ok(None)
 }

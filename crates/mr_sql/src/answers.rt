@@ -1,4 +1,5 @@
-ghost use Rattle.std.specs.Prelude.{◌≡◌, ◌∷◌, false, map, filter, find, IfOk};
+ghost use Rattle.std.specs.Prelude.{◌≡◌, ◌≢◌, ◌∷◌, map, filter, find, IfOk, IfErr};
+ghost use Rattle.std.specs.List.{All};
 ghost use Rattle.std.specs.List.Sorted.{IsPermutation, IsSortedBy};
 ghost use Rattle.sqlite_value.specs.declared.value.Value.TheVariants.{Null};
 ghost use Rattle.sqlite.specs.Held.{state};
@@ -6,8 +7,11 @@ ghost use Rattle.mr_model.specs.Writes.{same_id};
 ghost use Rattle.mr_model.specs.Queries.{booking_id, error_id, cancelled_id, cancel_id};
 ghost use Rattle.mr_store.specs.Picked.{is_day_asked as day_is_asked, booking_before, picked_errors, picked_cancelled, picked_cancels, AreBookings, IsPlaceOf};
 ghost use Rattle.mr_rows.specs.RowCells.{booking_row_from};
+ghost use Rattle.mr_rows.specs.Form.{booking_form};
+ghost use Rattle.mr_rows.specs.Shown.{IsShownAs};
 ghost use Rattle.mr_rows.specs.Database.{tables_in};
 ghost use Rattle.mr_rows.specs.Reads.{ReadsKept, first_of};
+ghost use Rattle.mr_sql.specs.FailedReads.{FailsByStoreAlone};
 ghost use Rattle.mr_sql.specs.PlaceOfId.{AreRowsOf, AreCancelRowsOf, taken_in, chosen};
 
 use mr_base::{Day, RoomName, WriteId};
@@ -15,21 +19,17 @@ use mr_rows::queries::{
     select_key_booking, select_key_cancel, select_key_cancelled, select_key_error,
     select_room_booking, select_room_cancel, select_room_cancelled, select_room_error,
 };
-use mr_rows::{StoredRow, all_rows, read_all};
+use mr_rows::{Idle, StoredRow, all_rows, read_all};
 use mr_store::sort_bookings;
 use mr_tables::{BookingRow, CancelRow, CancelledRow, ErrorRow, PlaceRow};
-use sqlite::{Alter, Connection, Error, Row};
+use sqlite::{Alter, Error, ErrorCode, Row};
 use std::alloc::Global;
 
 /// The known rooms.
-pub(crate) fn rooms_of<S: Alter>(
-    conn: &mut Connection<S>,
-    alloc: Global,
-) -> Result<Vec<RoomName>, Error>
-    requires autocommit { conn.old.in_transaction ≡ false }
-    ensures autocommit { conn.new.in_transaction ≡ false }
+pub(crate) fn rooms_of<S: Alter>(conn: &mut Idle<S>, alloc: Global) -> Result<Vec<RoomName>, Error>
     ensures reads { ReadsKept (state S.Store conn.old) (state S.Store conn.new) result
         (λ rooms. IsPermutation (tables_in (state S.Store conn.old).now.trees).room rooms.items) }
+    ensures failed { FailsByStoreAlone (state S.Store conn.old) (state S.Store conn.new) result }
 {
     all_rows(conn, alloc)
 }
@@ -53,6 +53,7 @@ fn keep_asked(rows: &mut Vec<BookingRow>, day: Option<Day>)
 fn calendar(alloc: Global, rows: &[Row], day: Option<Day>) -> Result<Vec<BookingRow>, Error>
     ensures same { IfOk result (λ out. IsPermutation (filter (λ row. day_is_asked day row.day) (map (λ row. booking_row_from (Null ∷ row)) rows.now)) out.items) }
     ensures sorted { IfOk result (λ out. IsSortedBy booking_before out.items) }
+    ensures refused { IfErr result (λ e. e ≢ Error.SqliteFailure ErrorCode.OutOfMemory → ¬ All (IsShownAs booking_form) rows.now) }
 {
     let mut out = read_all(alloc, rows)?;
     keep_asked(&mut out, day);
@@ -62,15 +63,14 @@ fn calendar(alloc: Global, rows: &[Row], day: Option<Day>) -> Result<Vec<Booking
 
 /// The bookings of a room, of a day or of all days.
 pub(crate) fn bookings_of<S: Alter>(
-    conn: &mut Connection<S>,
+    conn: &mut Idle<S>,
     alloc: Global,
     room: &RoomName,
     day: Option<Day>,
 ) -> Result<Vec<BookingRow>, Error>
-    requires autocommit { conn.old.in_transaction ≡ false }
-    ensures autocommit { conn.new.in_transaction ≡ false }
     ensures reads { ReadsKept (state S.Store conn.old) (state S.Store conn.new) result
         (λ rows. AreBookings room.now day (tables_in (state S.Store conn.old).now.trees) rows.items) }
+    ensures failed { FailsByStoreAlone (state S.Store conn.old) (state S.Store conn.new) result }
 {
     let rows = select_room_booking(conn, room)?;
     calendar(alloc, &rows, day)
@@ -78,14 +78,13 @@ pub(crate) fn bookings_of<S: Alter>(
 
 /// The error log's rows of a room.
 pub(crate) fn errors_of<S: Alter>(
-    conn: &mut Connection<S>,
+    conn: &mut Idle<S>,
     alloc: Global,
     room: &RoomName,
 ) -> Result<Vec<ErrorRow>, Error>
-    requires autocommit { conn.old.in_transaction ≡ false }
-    ensures autocommit { conn.new.in_transaction ≡ false }
     ensures reads { ReadsKept (state S.Store conn.old) (state S.Store conn.new) result
         (λ rows. IsPermutation (picked_errors room.now (tables_in (state S.Store conn.old).now.trees)) rows.items) }
+    ensures failed { FailsByStoreAlone (state S.Store conn.old) (state S.Store conn.new) result }
 {
     let rows = select_room_error(conn, room)?;
     read_all(alloc, &rows)
@@ -93,14 +92,13 @@ pub(crate) fn errors_of<S: Alter>(
 
 /// The rows of a room's bookings that a cancel took back.
 pub(crate) fn cancelled_of<S: Alter>(
-    conn: &mut Connection<S>,
+    conn: &mut Idle<S>,
     alloc: Global,
     room: &RoomName,
 ) -> Result<Vec<CancelledRow>, Error>
-    requires autocommit { conn.old.in_transaction ≡ false }
-    ensures autocommit { conn.new.in_transaction ≡ false }
     ensures reads { ReadsKept (state S.Store conn.old) (state S.Store conn.new) result
         (λ rows. IsPermutation (picked_cancelled room.now (tables_in (state S.Store conn.old).now.trees)) rows.items) }
+    ensures failed { FailsByStoreAlone (state S.Store conn.old) (state S.Store conn.new) result }
 {
     let rows = select_room_cancelled(conn, room)?;
     read_all(alloc, &rows)
@@ -108,21 +106,21 @@ pub(crate) fn cancelled_of<S: Alter>(
 
 /// The rows of a room's cancels.
 pub(crate) fn cancels_of<S: Alter>(
-    conn: &mut Connection<S>,
+    conn: &mut Idle<S>,
     alloc: Global,
     room: &RoomName,
 ) -> Result<Vec<CancelRow>, Error>
-    requires autocommit { conn.old.in_transaction ≡ false }
-    ensures autocommit { conn.new.in_transaction ≡ false }
     ensures reads { ReadsKept (state S.Store conn.old) (state S.Store conn.new) result
         (λ rows. IsPermutation (picked_cancels room.now (tables_in (state S.Store conn.old).now.trees)) rows.items) }
+    ensures failed { FailsByStoreAlone (state S.Store conn.old) (state S.Store conn.new) result }
 {
     let rows = select_room_cancel(conn, room)?;
     read_all(alloc, &rows)
 }
 
 fn first_row<R: StoredRow>(alloc: Global, rows: &[Row]) -> Result<Option<R>, Error>
-    ensures { IfOk result (λ row. row ≡ first_of (map (λ row. R.form.row_in (Null ∷ row)) rows.now)) }
+    ensures first { IfOk result (λ row. row ≡ first_of (map (λ row. R.form.row_in (Null ∷ row)) rows.now)) }
+    ensures refused { IfErr result (λ e. e ≢ Error.SqliteFailure ErrorCode.OutOfMemory → ¬ All (IsShownAs R.form) rows.now) }
 {
     match rows.first() {
         None => Ok(None),
@@ -132,15 +130,14 @@ fn first_row<R: StoredRow>(alloc: Global, rows: &[Row]) -> Result<Option<R>, Err
 
 /// The row of `booking` with this id.
 fn booking_of<S: Alter>(
-    conn: &mut Connection<S>,
+    conn: &mut Idle<S>,
     alloc: Global,
     server: u32,
     n: u32,
 ) -> Result<Option<BookingRow>, Error>
-    requires autocommit { conn.old.in_transaction ≡ false }
-    ensures autocommit { conn.new.in_transaction ≡ false }
     ensures reads { ReadsKept (state S.Store conn.old) (state S.Store conn.new) result
         (λ row. row ≡ find (λ r. same_id (booking_id r) (record { server = server; n = n })) (tables_in (state S.Store conn.old).now.trees).booking) }
+    ensures failed { FailsByStoreAlone (state S.Store conn.old) (state S.Store conn.new) result }
 {
     let rows = select_key_booking(conn, server, n)?;
     first_row(alloc, &rows)
@@ -148,15 +145,14 @@ fn booking_of<S: Alter>(
 
 /// The row of `errorlog` with this id.
 fn error_of<S: Alter>(
-    conn: &mut Connection<S>,
+    conn: &mut Idle<S>,
     alloc: Global,
     server: u32,
     n: u32,
 ) -> Result<Option<ErrorRow>, Error>
-    requires autocommit { conn.old.in_transaction ≡ false }
-    ensures autocommit { conn.new.in_transaction ≡ false }
     ensures reads { ReadsKept (state S.Store conn.old) (state S.Store conn.new) result
         (λ row. row ≡ find (λ r. same_id (error_id r) (record { server = server; n = n })) (tables_in (state S.Store conn.old).now.trees).errorlog) }
+    ensures failed { FailsByStoreAlone (state S.Store conn.old) (state S.Store conn.new) result }
 {
     let rows = select_key_error(conn, server, n)?;
     first_row(alloc, &rows)
@@ -164,15 +160,14 @@ fn error_of<S: Alter>(
 
 /// The row of `cancelled` with this id.
 fn taken_of<S: Alter>(
-    conn: &mut Connection<S>,
+    conn: &mut Idle<S>,
     alloc: Global,
     server: u32,
     n: u32,
 ) -> Result<Option<CancelledRow>, Error>
-    requires autocommit { conn.old.in_transaction ≡ false }
-    ensures autocommit { conn.new.in_transaction ≡ false }
     ensures reads { ReadsKept (state S.Store conn.old) (state S.Store conn.new) result
         (λ row. row ≡ find (λ r. same_id (cancelled_id r) (record { server = server; n = n })) (tables_in (state S.Store conn.old).now.trees).cancelled) }
+    ensures failed { FailsByStoreAlone (state S.Store conn.old) (state S.Store conn.new) result }
 {
     let rows = select_key_cancelled(conn, server, n)?;
     first_row(alloc, &rows)
@@ -180,30 +175,28 @@ fn taken_of<S: Alter>(
 
 /// The row of `cancel` with this id.
 fn cancel_of<S: Alter>(
-    conn: &mut Connection<S>,
+    conn: &mut Idle<S>,
     alloc: Global,
     server: u32,
     n: u32,
 ) -> Result<Option<CancelRow>, Error>
-    requires autocommit { conn.old.in_transaction ≡ false }
-    ensures autocommit { conn.new.in_transaction ≡ false }
     ensures reads { ReadsKept (state S.Store conn.old) (state S.Store conn.new) result
         (λ row. row ≡ find (λ r. same_id (cancel_id r) (record { server = server; n = n })) (tables_in (state S.Store conn.old).now.trees).cancels) }
+    ensures failed { FailsByStoreAlone (state S.Store conn.old) (state S.Store conn.new) result }
 {
     let rows = select_key_cancel(conn, server, n)?;
     first_row(alloc, &rows)
 }
 
 /// The rows of `booking` and `errorlog` with this id.
-pub(crate) fn rows_of<S: Alter>(
-    conn: &mut Connection<S>,
+fn rows_of<S: Alter>(
+    conn: &mut Idle<S>,
     alloc: Global,
     id: WriteId,
 ) -> Result<(Option<BookingRow>, Option<ErrorRow>), Error>
-    requires autocommit { conn.old.in_transaction ≡ false }
-    ensures autocommit { conn.new.in_transaction ≡ false }
     ensures reads { ReadsKept (state S.Store conn.old) (state S.Store conn.new) result
         (λ rows. AreRowsOf id (tables_in (state S.Store conn.old).now.trees) rows.0 rows.1) }
+    ensures failed { FailsByStoreAlone (state S.Store conn.old) (state S.Store conn.new) result }
 {
     let (server, n) = parts_of(id);
     let booking = booking_of(conn, alloc, server, n)?;
@@ -218,15 +211,14 @@ fn parts_of(id: WriteId) -> (u32, u32)
 }
 
 /// The rows of `cancelled` and `cancel` with this id.
-pub(crate) fn cancel_rows_of<S: Alter>(
-    conn: &mut Connection<S>,
+fn cancel_rows_of<S: Alter>(
+    conn: &mut Idle<S>,
     alloc: Global,
     id: WriteId,
 ) -> Result<(Option<CancelledRow>, Option<CancelRow>), Error>
-    requires autocommit { conn.old.in_transaction ≡ false }
-    ensures autocommit { conn.new.in_transaction ≡ false }
     ensures reads { ReadsKept (state S.Store conn.old) (state S.Store conn.new) result
         (λ row. AreCancelRowsOf id (tables_in (state S.Store conn.old).now.trees) row.0 row.1) }
+    ensures failed { FailsByStoreAlone (state S.Store conn.old) (state S.Store conn.new) result }
 {
     let (server, n) = parts_of(id);
     let cancelled = taken_of(conn, alloc, server, n)?;
@@ -271,15 +263,14 @@ fn choose(
 
 /// The row of the write with this id, if it is of that room.
 pub(crate) fn place_of<S: Alter>(
-    conn: &mut Connection<S>,
+    conn: &mut Idle<S>,
     alloc: Global,
     room: &RoomName,
     id: WriteId,
 ) -> Result<Option<PlaceRow>, Error>
-    requires autocommit { conn.old.in_transaction ≡ false }
-    ensures autocommit { conn.new.in_transaction ≡ false }
     ensures reads { ReadsKept (state S.Store conn.old) (state S.Store conn.new) result
         (λ row. IsPlaceOf room.now id (tables_in (state S.Store conn.old).now.trees) row) }
+    ensures failed { FailsByStoreAlone (state S.Store conn.old) (state S.Store conn.new) result }
 {
     let rows = rows_of(conn, alloc, id)?;
     let others = cancel_rows_of(conn, alloc, id)?;

@@ -1,4 +1,4 @@
-ghost use Rattle.std.specs.Prelude.{◌≡◌, false, IsTrue, OnOk, OnErr};
+ghost use Rattle.std.specs.Prelude.{◌≡◌, IsTrue, OnOk, OnErr};
 ghost use Rattle.sqlite.specs.State.{HasCleanDisk, KeepsCommit, Survives};
 ghost use Rattle.sqlite.specs.Held.{state};
 ghost use Rattle.mr_rows.specs.Schema.{no_schema, with_meta, with_room_table, with_vector, with_write_log, with_undo, with_booking, first_schema};
@@ -7,9 +7,10 @@ ghost use Rattle.mr_rows.specs.ChangeParts.{put_meta as meta_put};
 ghost use Rattle.mr_sql.specs.Blank.{IsBlank, GrowsSchema, no_tables};
 
 use mr_first::creating::create_second_rows;
+use mr_rows::Idle;
 use mr_rows::puts::put_meta;
 use mr_tables::MetaRow;
-use sqlite::{Alter, Connection, Error, Transaction};
+use sqlite::{Alter, Error, Transaction};
 
 fn create_meta<S: Alter>(tx: &mut Transaction<'_, S>) -> Result<usize, Error>
     ensures same_reference { tx.new.conn.ghost_name ≡ tx.old.conn.ghost_name }
@@ -139,9 +140,7 @@ fn fill<S: Alter>(tx: &mut Transaction<'_, S>, row: &MetaRow) -> Result<(), Erro
 }
 
 /// Makes the tables with the row of `meta`, in one transaction. If it is refused, the database is as it was.
-pub(crate) fn create<S: Alter>(conn: &mut Connection<S>, row: &MetaRow) -> Result<(), Error>
-    requires autocommit { conn.old.in_transaction ≡ false }
-    ensures autocommit { conn.new.in_transaction ≡ false }
+pub(crate) fn create<S: Alter>(conn: &mut Idle<S>, row: &MetaRow) -> Result<(), Error>
     ensures lasts { HasCleanDisk (state S.Store conn.new) → OnOk result (IsTrue (state S.Store conn.new).is_open) }
     ensures kept { HasCleanDisk (state S.Store conn.new) → IsTrue (state S.Store conn.new).is_open → IsBlank no_schema (state S.Store conn.old).now
         → OnOk result (IsKept (state S.Store conn.new)) }
@@ -154,7 +153,7 @@ pub(crate) fn create<S: Alter>(conn: &mut Connection<S>, row: &MetaRow) -> Resul
     ensures survives { Survives (state S.Store conn.old) (state S.Store conn.new)
         (λ trees. IsBlank no_schema (state S.Store conn.old).now → tables_in trees ≡ meta_put row.now no_tables) }
 {
-    let mut tx = conn.transaction();
+    let mut tx = conn.connection.transaction();
     fill(&mut tx, row)?;
     tx.commit()?;
     Ok(())

@@ -1,6 +1,6 @@
 //! How tables of the first schema are made.
 
-ghost use Rattle.std.specs.Prelude.{◌≡◌, false, IsTrue, OnOk};
+ghost use Rattle.std.specs.Prelude.{◌≡◌, IsTrue, OnOk};
 ghost use Rattle.sqlite.specs.State.{HasCleanDisk, KeepsCommit, Survives};
 ghost use Rattle.sqlite.specs.Held.{state};
 ghost use Rattle.mr_rows.specs.Schema.{no_schema, first_schema};
@@ -11,7 +11,8 @@ ghost use Rattle.mr_sql.specs.Blank.{IsBlank, GrowsSchema};
 use crate::create::{create_first_rows, create_heads};
 use mr_first::First;
 use mr_first::puts::put_tables;
-use sqlite::{Alter, Connection, Error, Transaction};
+use mr_rows::Idle;
+use sqlite::{Alter, Error, Transaction};
 use std::alloc::Global;
 
 /// Makes the tables of the first schema.
@@ -40,17 +41,15 @@ fn fill<S: Alter>(tx: &mut Transaction<'_, S>, alloc: Global, tables: &First) ->
 
 /// Makes the tables of the first schema with these rows, in one transaction.
 pub(crate) fn create_first<S: Alter>(
-    conn: &mut Connection<S>,
+    conn: &mut Idle<S>,
     alloc: Global,
     tables: &First,
 ) -> Result<(), Error>
-    requires autocommit { conn.old.in_transaction ≡ false }
-    ensures autocommit { conn.new.in_transaction ≡ false }
     ensures kept { HasCleanDisk (state S.Store conn.new) → IsBlank no_schema (state S.Store conn.old).now → OnOk result (IsKeptFirst (state S.Store conn.new)) }
     ensures tables { HasCleanDisk (state S.Store conn.new) → IsBlank no_schema (state S.Store conn.old).now
         → OnOk result (first_in (state S.Store conn.new).now.trees ≡ tables_put tables.now no_first_tables) }
 {
-    let mut tx = conn.transaction();
+    let mut tx = conn.connection.transaction();
     fill(&mut tx, alloc, tables)?;
     tx.commit()?;
     Ok(())

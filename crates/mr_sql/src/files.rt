@@ -1,25 +1,27 @@
 //! Keepers in files.
 
-ghost use Rattle.std.specs.Prelude.{◌≡◌, ◌⊎◌, true, false, Some, None, IfOk, IfErr, IsTrue};
+ghost use Rattle.std.specs.Prelude.{◌≡◌, ◌<◌, ◌⊎◌, true, Some, None, IfOk, IfErr, IsTrue};
 ghost use Rattle.sqlite_trees.specs.Tree.{Trees};
 ghost use Rattle.sqlite.specs.Recovery.{Image};
 ghost use Rattle.sqlite.specs.WalFiles.{image_at};
 ghost use Rattle.sqlite.specs.WalReads.{AreClean};
 ghost use Rattle.sqlite.specs.State.{HasCleanDisk};
 ghost use Rattle.sqlite.specs.Held.{state};
-ghost use Rattle.sqlite.specs.Files.{file_state, image_of, IsClosed};
+ghost use Rattle.sqlite.specs.Files.{file_state, image_of, HoldsDatabase, IsClosed};
 ghost use Rattle.sqlite.specs.Closing.{IsCopied};
 ghost use Rattle.mr_agree.specs.Agreeing.{agree};
 ghost use Rattle.mr_disk.specs.Copied.{image_copied};
 ghost use Rattle.mr_rows.specs.Database.{tables_in};
 ghost use Rattle.mr_sql.specs.Found.{IsAdopted, IsResumed, IsTaken, LeavesTables, StaysAs};
 ghost use Rattle.mr_sql.specs.Refused.{IsAnothers, IsFoundIn, IsNobodys};
+ghost use Rattle.mr_sql.specs.Failed.{StoreFailed, HoldReplica};
 
 use crate::faults::{refusal_in_memory, refusal_of};
 use crate::schemas::is_first;
 use crate::sql_keeper::{GivenBack, SqlKeeper};
 use mr_base::{Refusal, ServerId};
 use mr_disk::{Copied, SparingFile};
+use mr_rows::Idle;
 use sqlite::{Alter, Connection, Error, FileStore, Files, Options, Start, Unknown};
 use sqlite_disk::{Disk, Memory};
 use sqlite_std_file::OpenError;
@@ -103,15 +105,15 @@ fn connect<D: Disk + Drop>(
     alloc: Global,
     files: Files<D>,
     options: Options,
-) -> Result<Connection<FileStore<D>>, Error>
+) -> Result<Idle<FileStore<D>>, Error>
     requires log { IsTrue (D.Disk.is_usable files.log) }
     requires db { IsTrue (D.Disk.is_usable files.db) }
     ensures found { IfOk result (λ c. HasCleanDisk (file_state c) → IsFoundIn (image_of D.Disk files) (file_state c).committed.trees) }
     ensures taken { IfOk result (λ c. HasCleanDisk (file_state c) → IsTaken (file_state c).committed.trees (file_state c)) }
-    ensures autocommit { IfOk result (λ c. c.in_transaction ≡ false) }
+    ensures unlimited { IfOk result (λ c. (file_state c).step_limit ≡ None) }
 {
     match Connection::open_files(alloc, files, options) {
-        Ok(conn) => Ok(conn),
+        Ok(connection) => Ok(Idle { connection }),
         Err((error, _)) => Err(error),
     }
 }
@@ -121,10 +123,10 @@ fn open<B: Start>(
     rt: &HostRuntime,
     path: &str,
     start: B,
-) -> Result<Connection<FileStore<SparingFile<B>>>, Refusal>
+) -> Result<Idle<FileStore<SparingFile<B>>>, Refusal>
     ensures found { IfOk result (λ c. HasCleanDisk (file_state c) → IsFoundIn (image_at B.Start) (file_state c).committed.trees) }
     ensures taken { IfOk result (λ c. HasCleanDisk (file_state c) → IsTaken (file_state c).committed.trees (file_state c)) }
-    ensures autocommit { IfOk result (λ c. c.in_transaction ≡ false) }
+    ensures unlimited { IfOk result (λ c. (file_state c).step_limit ≡ None) }
     ensures cause { IfErr result (λ e. (e ≡ Refusal.OutOfMemory) ⊎ (e ≡ Refusal.Store)) }
 {
     let files = open_pair(rt, path, start)?;
@@ -162,10 +164,10 @@ fn disks_of(alloc: Global, copied: Copied) -> Result<Files<Memory>, Refusal>
 }
 
 // Opens the database of a copy.
-fn open_disks(rt: &HostRuntime, copied: Copied) -> Result<Connection<FileStore<Memory>>, Refusal>
+fn open_disks(rt: &HostRuntime, copied: Copied) -> Result<Idle<FileStore<Memory>>, Refusal>
     ensures found { IfOk result (λ c. HasCleanDisk (file_state c) → IsFoundIn (image_copied copied) (file_state c).committed.trees) }
     ensures taken { IfOk result (λ c. HasCleanDisk (file_state c) → IsTaken (file_state c).committed.trees (file_state c)) }
-    ensures autocommit { IfOk result (λ c. c.in_transaction ≡ false) }
+    ensures unlimited { IfOk result (λ c. (file_state c).step_limit ≡ None) }
     ensures cause { IfErr result (λ e. (e ≡ Refusal.OutOfMemory) ⊎ (e ≡ Refusal.Store)) }
 {
     let files = disks_of(rt.alloc(), copied)?;
@@ -180,9 +182,9 @@ fn open_disks(rt: &HostRuntime, copied: Copied) -> Result<Connection<FileStore<M
 // of a store of files is dear to prove, so `open_copied` makes this one alone.
 fn take_copy<S: Alter + Drop>(
     alloc: Global,
-    conn: Connection<S>,
-) -> Result<SqlKeeper<S>, (NotCopied, Connection<S>)>
-    requires autocommit { conn.in_transaction ≡ false }
+    conn: Idle<S>,
+    keep: bool,
+) -> Result<SqlKeeper<S>, (NotCopied, Idle<S>)>
     requires taken { HasCleanDisk (state S.Store conn) → IsTaken (state S.Store conn).committed.trees (state S.Store conn) }
     ensures opens { IfOk result (λ k. HasCleanDisk (state S.Store k.0) → IsTrue (state S.Store k.0).is_open) }
     ensures resumed { IfOk result (λ k. HasCleanDisk (state S.Store k.0) → IsTrue (state S.Store k.0).is_open
@@ -193,11 +195,13 @@ fn take_copy<S: Alter + Drop>(
     ensures was_clean { IfErr result (λ e. HasCleanDisk (state S.Store e.1) → HasCleanDisk (state S.Store conn)) }
     ensures cause { IfErr result (λ e. (r : _) → e.0 ≡ NotCopied.Refused r → (r ≡ Refusal.OutOfMemory) ⊎ ((r ≡ Refusal.Store) ⊎ (r ≡ Refusal.NotAReplica))) }
     ensures strange { IfErr result (λ e. HasCleanDisk (state S.Store e.1) → e.0 ≡ NotCopied.Refused Refusal.NotAReplica → IsNobodys (state S.Store conn).committed.trees) }
+    ensures failed { IfErr result (λ e. HasCleanDisk (state S.Store e.1) → HoldReplica (state S.Store conn).committed.trees → e.0 ≡ NotCopied.Refused Refusal.Store
+        → StoreFailed (state S.Store conn) (state S.Store e.1)) }
 {
     if is_first(&conn) {
         return Err((NotCopied::OnlyInFile, conn));
     }
-    match SqlKeeper::recovered(alloc, conn, false) {
+    match SqlKeeper::recovered(alloc, conn, keep) {
         Ok(keeper) => Ok(keeper),
         Err((refusal, conn)) => Err((NotCopied::Refused(refusal), conn)),
     }
@@ -230,6 +234,8 @@ impl<B: Start> SqlKeeper<FileStore<SparingFile<B>>> {
         ensures cause { IfErr result (λ e. (e.0 ≡ Refusal.OutOfMemory) ⊎ ((e.0 ≡ Refusal.Store) ⊎ (e.0 ≡ Refusal.NotAReplica))) }
         ensures strange { IfErr result (λ e. e.0 ≡ Refusal.NotAReplica → (c : _) × (e.1 ≡ Some (GivenBack.Connection c))
             × (HasCleanDisk (file_state c) → (before : Trees) × IsFoundIn (image_at B.Start) before × IsAnothers server primary before)) }
+        ensures failed { IfErr result (λ e. (c : _) → e.1 ≡ Some (GivenBack.Connection c) → HasCleanDisk (file_state c)
+            → (db : Trees) → HoldsDatabase (image_at B.Start) db → HoldReplica db → e.0 ≡ Refusal.Store → 0 < (file_state c).faults) }
         ensures stays { IfErr result (λ e. (c : _) → e.1 ≡ Some (GivenBack.Connection c) → HasCleanDisk (file_state c) → IsTrue (file_state c).is_open
             → (before : Trees) × IsFoundIn (image_at B.Start) before × StaysAs before (file_state c)) }
         ensures crash { IfErr result (λ e. (c : _) → e.1 ≡ Some (GivenBack.Connection c) → HasCleanDisk (file_state c)
@@ -242,7 +248,7 @@ impl<B: Start> SqlKeeper<FileStore<SparingFile<B>>> {
         };
         match SqlKeeper::adopted(rt.alloc(), conn, server, primary, true) {
             Ok(keeper) => Ok(keeper),
-            Err((refusal, conn)) => Err((refusal, Some(GivenBack::Connection(conn)))),
+            Err((refusal, conn)) => Err((refusal, Some(GivenBack::Connection(conn.connection)))),
         }
     }
 
@@ -258,6 +264,8 @@ impl<B: Start> SqlKeeper<FileStore<SparingFile<B>>> {
         ensures cause { IfErr result (λ e. (e.0 ≡ Refusal.OutOfMemory) ⊎ ((e.0 ≡ Refusal.Store) ⊎ (e.0 ≡ Refusal.NotAReplica))) }
         ensures strange { IfErr result (λ e. e.0 ≡ Refusal.NotAReplica → (e.1 ≡ None) ⊎ ((c : _) × (e.1 ≡ Some (GivenBack.Connection c))
             × (HasCleanDisk (file_state c) → (before : Trees) × IsFoundIn (image_at B.Start) before × IsNobodys before))) }
+        ensures failed { IfErr result (λ e. (c : _) → e.1 ≡ Some (GivenBack.Connection c) → HasCleanDisk (file_state c)
+            → (db : Trees) → HoldsDatabase (image_at B.Start) db → HoldReplica db → e.0 ≡ Refusal.Store → 0 < (file_state c).faults) }
         ensures stays { IfErr result (λ e. (c : _) → e.1 ≡ Some (GivenBack.Connection c) → HasCleanDisk (file_state c) → IsTrue (file_state c).is_open
             → (before : Trees) × IsFoundIn (image_at B.Start) before × StaysAs before (file_state c)) }
         ensures crash { IfErr result (λ e. (c : _) → e.1 ≡ Some (GivenBack.Connection c) → HasCleanDisk (file_state c)
@@ -273,15 +281,20 @@ impl<B: Start> SqlKeeper<FileStore<SparingFile<B>>> {
         };
         match SqlKeeper::recovered(rt.alloc(), conn, true) {
             Ok(keeper) => Ok(keeper),
-            Err((refusal, conn)) => Err((refusal, Some(GivenBack::Connection(conn)))),
+            Err((refusal, conn)) => Err((refusal, Some(GivenBack::Connection(conn.connection)))),
         }
     }
 }
 
 impl SqlKeeper<FileStore<Memory>> {
     /// Opens a copy of a database's files as that of a replica, whichever it is, and refuses what `open_from` refuses. Tables of the first
-    /// schema aren't taken, since they are to be moved up in their file. What is changed in the copy is changed in no file.
-    pub fn open_copied(rt: &HostRuntime, copied: Copied) -> Result<CopyKeeper, NotCopied>
+    /// schema aren't taken, since they are to be moved up in their file. What is changed in the copy is changed in no file. `keep` is whether the
+    /// rows that the open reads are kept for the first part that is asked for.
+    pub fn open_copied(
+        rt: &HostRuntime,
+        copied: Copied,
+        keep: bool,
+    ) -> Result<CopyKeeper, NotCopied>
         ensures opened { IfOk result (λ k. HasCleanDisk (file_state k.0) → IsTrue (file_state k.0).is_open
             → (before : Trees) × IsFoundIn (image_copied copied) before × IsResumed before (file_state k.0).now.trees) }
         ensures opens { IfOk result (λ k. HasCleanDisk (file_state k.0) → IsTrue (file_state k.0).is_open) }
@@ -295,7 +308,7 @@ impl SqlKeeper<FileStore<Memory>> {
             Ok(conn) => conn,
             Err(refusal) => return Err(NotCopied::Refused(refusal)),
         };
-        match take_copy(rt.alloc(), conn) {
+        match take_copy(rt.alloc(), conn, keep) {
             Ok(keeper) => Ok(keeper),
             Err((why, _)) => Err(why),
         }
@@ -303,7 +316,7 @@ impl SqlKeeper<FileStore<Memory>> {
 
     /// As `open_copied`, of what the files at the path hold as they are read, which is all that is done with them. If there is no file,
     /// it is refused with 26.
-    pub fn open_copy(rt: &HostRuntime, path: &str) -> Result<CopyKeeper, NotCopied>
+    pub fn open_copy(rt: &HostRuntime, path: &str, keep: bool) -> Result<CopyKeeper, NotCopied>
         ensures opened { IfOk result (λ k. HasCleanDisk (file_state k.0) → IsTrue (file_state k.0).is_open
             → (image : Image) × (before : Trees) × IsFoundIn image before × IsResumed before (file_state k.0).now.trees) }
         ensures opens { IfOk result (λ k. HasCleanDisk (file_state k.0) → IsTrue (file_state k.0).is_open) }
@@ -315,7 +328,7 @@ impl SqlKeeper<FileStore<Memory>> {
             return Err(NotCopied::Refused(Refusal::NotAReplica));
         }
         let copied = copied_at(rt, path)?;
-        SqlKeeper::open_copied(rt, copied)
+        SqlKeeper::open_copied(rt, copied, keep)
     }
 }
 
@@ -375,6 +388,6 @@ impl SqlKeeper<FileStore<SparingFile<Unknown>>> {
 
     /// Gives the file up, as `close_files`.
     pub fn close(self) {
-        let _ = self.close_files();
+        drop(self.close_files());
     }
 }

@@ -1,6 +1,6 @@
 //! Databases of the first schema, which are moved up when they are opened.
 
-ghost use Rattle.std.specs.Prelude.{◌≡◌, ◌⊎◌, false, None, IfOk, IfErr, OnOk, OnErr, IsTrue};
+ghost use Rattle.std.specs.Prelude.{◌≡◌, ◌⊎◌, None, IfOk, IfErr, OnOk, OnErr, IsTrue};
 ghost use Rattle.sqlite_trees.specs.Tree.{Trees};
 ghost use Rattle.sqlite_catalog.specs.Listing.{IsSound};
 ghost use Rattle.sqlite.specs.State.{HasCleanDisk, Survives};
@@ -14,6 +14,7 @@ ghost use Rattle.mr_first.specs.FirstDatabase.{IsKeptFirst, first_in};
 ghost use Rattle.mr_first.specs.MovedUp.{IsMoved};
 ghost use Rattle.mr_sql.specs.Found.{IsTaken, IsTakenAs, IsFound, IsFoundFirst, IsAdopted, IsResumed, StaysAs};
 ghost use Rattle.mr_sql.specs.Refused.{AreSomebodys, HasNoMeta, IsAnothers, IsNobodys};
+ghost use Rattle.mr_sql.specs.Failed.{StoreFailed, HoldFirst};
 
 use crate::adopt::is_of;
 use crate::faults::refusal_of;
@@ -22,14 +23,13 @@ use crate::schemas::is_first;
 use mr_base::{Refusal, ServerId};
 use mr_first::found::find_first;
 use mr_first::moving::move_up;
+use mr_rows::Idle;
 use mr_tables::MetaRow;
-use sqlite::{Alter, Connection};
+use sqlite::Alter;
 use std::alloc::Global;
 
 // Finds the row of `meta` in a database with the first schema's tables. It is refused if there is none.
-fn find_first_row<S: Alter>(conn: &mut Connection<S>, alloc: Global) -> Result<MetaRow, Refusal>
-    requires autocommit { conn.old.in_transaction ≡ false }
-    ensures autocommit { conn.new.in_transaction ≡ false }
+fn find_first_row<S: Alter>(conn: &mut Idle<S>, alloc: Global) -> Result<MetaRow, Refusal>
     ensures clean { HasCleanDisk (state S.Store conn.new) → HasCleanDisk (state S.Store conn.old) }
     ensures found { (trees : Trees) → HasCleanDisk (state S.Store conn.new) → IsTakenAs first_schema trees (state S.Store conn.old)
         → IfOk result (λ m. IsTrue (state S.Store conn.new).is_open → IsFoundFirst trees m (state S.Store conn.new)) }
@@ -41,6 +41,8 @@ fn find_first_row<S: Alter>(conn: &mut Connection<S>, alloc: Global) -> Result<M
         → IfErr result (λ e. e ≡ Refusal.NotAReplica → IsMeta trees None) }
     ensures survives { Survives (state S.Store conn.old) (state S.Store conn.new)
         (λ _. (trees : Trees) → IsTakenAs first_schema trees (state S.Store conn.old) → ⊥) }
+    ensures failed { (trees : Trees) → HasCleanDisk (state S.Store conn.new) → IsTakenAs first_schema trees (state S.Store conn.old) → HoldFirst trees
+        → IfErr result (λ e. e ≡ Refusal.Store → StoreFailed (state S.Store conn.old) (state S.Store conn.new)) }
     ensures cause { IfErr result (λ e. (e ≡ Refusal.OutOfMemory) ⊎ ((e ≡ Refusal.Store) ⊎ (e ≡ Refusal.NotAReplica))) }
 {
     match find_first(conn, alloc) {
@@ -51,12 +53,7 @@ fn find_first_row<S: Alter>(conn: &mut Connection<S>, alloc: Global) -> Result<M
 }
 
 /// Finds the row of `meta` in a database with the first schema's tables. It is refused if there is none, or one of another schema.
-pub(crate) fn find_old<S: Alter>(
-    conn: &mut Connection<S>,
-    alloc: Global,
-) -> Result<MetaRow, Refusal>
-    requires autocommit { conn.old.in_transaction ≡ false }
-    ensures autocommit { conn.new.in_transaction ≡ false }
+pub(crate) fn find_old<S: Alter>(conn: &mut Idle<S>, alloc: Global) -> Result<MetaRow, Refusal>
     ensures clean { HasCleanDisk (state S.Store conn.new) → HasCleanDisk (state S.Store conn.old) }
     ensures found { (trees : Trees) → HasCleanDisk (state S.Store conn.new) → IsTakenAs first_schema trees (state S.Store conn.old)
         → IfOk result (λ m. IsTrue (state S.Store conn.new).is_open → IsFoundFirst trees m (state S.Store conn.new)) }
@@ -68,6 +65,8 @@ pub(crate) fn find_old<S: Alter>(
         → IfErr result (λ e. e ≡ Refusal.NotAReplica → HasNoMeta 1 trees) }
     ensures survives { Survives (state S.Store conn.old) (state S.Store conn.new)
         (λ _. (trees : Trees) → IsTakenAs first_schema trees (state S.Store conn.old) → ⊥) }
+    ensures failed { (trees : Trees) → HasCleanDisk (state S.Store conn.new) → IsTakenAs first_schema trees (state S.Store conn.old) → HoldFirst trees
+        → IfErr result (λ e. e ≡ Refusal.Store → StoreFailed (state S.Store conn.old) (state S.Store conn.new)) }
     ensures cause { IfErr result (λ e. (e ≡ Refusal.OutOfMemory) ⊎ ((e ≡ Refusal.Store) ⊎ (e ≡ Refusal.NotAReplica))) }
 {
     check_number(conn, 1)?;
@@ -75,9 +74,7 @@ pub(crate) fn find_old<S: Alter>(
 }
 
 // Moves tables of the first schema up.
-fn raise<S: Alter>(conn: &mut Connection<S>, alloc: Global) -> Result<(), Refusal>
-    requires autocommit { conn.old.in_transaction ≡ false }
-    ensures autocommit { conn.new.in_transaction ≡ false }
+fn raise<S: Alter>(conn: &mut Idle<S>, alloc: Global) -> Result<(), Refusal>
     ensures clean { HasCleanDisk (state S.Store conn.new) → HasCleanDisk (state S.Store conn.old) }
     ensures raised { (trees : Trees) (m : model) → HasCleanDisk (state S.Store conn.new) → IsFoundFirst trees m (state S.Store conn.old)
         → OnOk result (IsTrue (state S.Store conn.new).is_open → IsFound trees m (state S.Store conn.new)) }
@@ -96,14 +93,12 @@ fn raise<S: Alter>(conn: &mut Connection<S>, alloc: Global) -> Result<(), Refusa
 
 // Finds the first schema's tables of this server and primary, and moves them up.
 fn resume_first<S: Alter>(
-    conn: &mut Connection<S>,
+    conn: &mut Idle<S>,
     alloc: Global,
     server: ServerId,
     primary: ServerId,
 ) -> Result<(), Refusal>
-    requires autocommit { conn.old.in_transaction ≡ false }
     requires first { (state S.Store conn.old).now.schema ≡ first_schema }
-    ensures autocommit { conn.new.in_transaction ≡ false }
     ensures clean { HasCleanDisk (state S.Store conn.new) → HasCleanDisk (state S.Store conn.old) }
     ensures resumed { (trees : Trees) → HasCleanDisk (state S.Store conn.new) → IsTaken trees (state S.Store conn.old)
         → OnOk result (IsTrue (state S.Store conn.new).is_open → IsKept (state S.Store conn.new)
@@ -128,15 +123,13 @@ fn resume_first<S: Alter>(
 
 /// Of a database that is not blank and hasn't our tables: finds the first schema's of this server and primary, and moves them up.
 pub(crate) fn adopt_first_tables<S: Alter>(
-    conn: &mut Connection<S>,
+    conn: &mut Idle<S>,
     alloc: Global,
     server: ServerId,
     primary: ServerId,
 ) -> Result<(), Refusal>
-    requires autocommit { conn.old.in_transaction ≡ false }
     requires filled { (state S.Store conn.old).now.schema ≡ no_schema → ⊥ }
     requires others { (state S.Store conn.old).now.schema ≡ our_schema → ⊥ }
-    ensures autocommit { conn.new.in_transaction ≡ false }
     ensures clean { HasCleanDisk (state S.Store conn.new) → HasCleanDisk (state S.Store conn.old) }
     ensures settled { (trees : Trees) → HasCleanDisk (state S.Store conn.new) → IsTaken trees (state S.Store conn.old)
         → OnOk result (IsTrue (state S.Store conn.new).is_open → IsKept (state S.Store conn.new)
@@ -161,13 +154,8 @@ pub(crate) fn adopt_first_tables<S: Alter>(
 }
 
 /// Of a database that hasn't our tables: finds the first schema's of a replica, whichever it is, and moves them up.
-pub(crate) fn recover_first<S: Alter>(
-    conn: &mut Connection<S>,
-    alloc: Global,
-) -> Result<(), Refusal>
-    requires autocommit { conn.old.in_transaction ≡ false }
+pub(crate) fn recover_first<S: Alter>(conn: &mut Idle<S>, alloc: Global) -> Result<(), Refusal>
     requires others { (state S.Store conn.old).now.schema ≡ our_schema → ⊥ }
-    ensures autocommit { conn.new.in_transaction ≡ false }
     ensures clean { HasCleanDisk (state S.Store conn.new) → HasCleanDisk (state S.Store conn.old) }
     ensures recovered { (trees : Trees) → HasCleanDisk (state S.Store conn.new) → IsTaken trees (state S.Store conn.old)
         → OnOk result (IsTrue (state S.Store conn.new).is_open → IsKept (state S.Store conn.new) × IsResumed trees (state S.Store conn.new).now.trees) }
@@ -191,10 +179,8 @@ pub(crate) fn recover_first<S: Alter>(
 }
 
 // Finds the first schema's tables of a replica, whichever it is, and moves them up.
-fn raise_any<S: Alter>(conn: &mut Connection<S>, alloc: Global) -> Result<(), Refusal>
-    requires autocommit { conn.old.in_transaction ≡ false }
+fn raise_any<S: Alter>(conn: &mut Idle<S>, alloc: Global) -> Result<(), Refusal>
     requires first { (state S.Store conn.old).now.schema ≡ first_schema }
-    ensures autocommit { conn.new.in_transaction ≡ false }
     ensures clean { HasCleanDisk (state S.Store conn.new) → HasCleanDisk (state S.Store conn.old) }
     ensures raised { (trees : Trees) → HasCleanDisk (state S.Store conn.new) → IsTaken trees (state S.Store conn.old)
         → OnOk result (IsTrue (state S.Store conn.new).is_open → IsKept (state S.Store conn.new) × IsResumed trees (state S.Store conn.new).now.trees) }
@@ -213,9 +199,7 @@ fn raise_any<S: Alter>(conn: &mut Connection<S>, alloc: Global) -> Result<(), Re
 }
 
 /// Finds the first schema's tables of a replica, whichever it is, and leaves them as they are.
-pub(crate) fn claim<S: Alter>(conn: &mut Connection<S>, alloc: Global) -> Result<(), Refusal>
-    requires autocommit { conn.old.in_transaction ≡ false }
-    ensures autocommit { conn.new.in_transaction ≡ false }
+pub(crate) fn claim<S: Alter>(conn: &mut Idle<S>, alloc: Global) -> Result<(), Refusal>
     ensures clean { HasCleanDisk (state S.Store conn.new) → HasCleanDisk (state S.Store conn.old) }
     ensures claimed { (trees : Trees) → HasCleanDisk (state S.Store conn.new) → IsTaken trees (state S.Store conn.old)
         → OnOk result (IsTrue (state S.Store conn.new).is_open → IsKeptFirst (state S.Store conn.new) × IsSound first_schema trees
@@ -227,6 +211,8 @@ pub(crate) fn claim<S: Alter>(conn: &mut Connection<S>, alloc: Global) -> Result
     ensures strange { (trees : Trees) → HasCleanDisk (state S.Store conn.new) → IsTaken trees (state S.Store conn.old)
         → IfErr result (λ e. e ≡ Refusal.NotAReplica → IsSound first_schema trees → HasNoMeta 1 trees) }
     ensures survives { Survives (state S.Store conn.old) (state S.Store conn.new) (λ _. (trees : Trees) → IsTaken trees (state S.Store conn.old) → ⊥) }
+    ensures failed { (trees : Trees) → HasCleanDisk (state S.Store conn.new) → IsTaken trees (state S.Store conn.old) → HoldFirst trees
+        → IfErr result (λ e. e ≡ Refusal.Store → StoreFailed (state S.Store conn.old) (state S.Store conn.new)) }
     ensures cause { IfErr result (λ e. (e ≡ Refusal.OutOfMemory) ⊎ ((e ≡ Refusal.Store) ⊎ (e ≡ Refusal.NotAReplica))) }
 {
     if !is_first(conn) {

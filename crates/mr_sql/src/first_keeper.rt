@@ -1,6 +1,7 @@
 //! A database of the first schema, by itself.
 
-ghost use Rattle.std.specs.Prelude.{◌≡◌, ◌⊎◌, false, Err, IfOk, IfErr, OnOk, IsTrue};
+ghost use Rattle.std.specs.Prelude.{◌≡◌, ◌<◌, ◌⊎◌, false, Err, IfOk, IfErr, OnOk, IsTrue};
+ghost use Rattle.sqlite_disk.specs.Disk.{MoreFaults};
 ghost use Rattle.sqlite_trees.specs.Tree.{Trees};
 ghost use Rattle.sqlite_trees.specs.View.{IsClean};
 ghost use Rattle.sqlite_catalog.specs.Listing.{IsSound};
@@ -12,6 +13,7 @@ ghost use Rattle.mr_first.specs.FirstDatabase.{first_in};
 ghost use Rattle.mr_first.specs.FirstParts.{AreFirstKeysRising};
 ghost use Rattle.mr_sql.specs.Found.{IsRaised, LeavesRows, LeavesTables, StaysAs};
 ghost use Rattle.mr_sql.specs.Refused.{HasNoMeta};
+ghost use Rattle.mr_sql.specs.Failed.{HoldFirst};
 
 use crate::adopt::retaken;
 use crate::create_first::create_first;
@@ -21,6 +23,7 @@ use crate::sql_keeper::{GivenBack, SqlKeeper, open_connection};
 use mr_base::Refusal;
 use mr_first::puts::are_keys_rising;
 use mr_first::{First, moving};
+use mr_rows::Idle;
 use sqlite::{Alter, Connection, MemStore};
 use std::alloc::Global;
 use std::marker::Model;
@@ -28,12 +31,12 @@ use std::marker::Model;
 /// A database with the tables of the first schema. It can do nothing but move up. Contracts see it as its connection.
 #[derive(Drop)]
 pub struct FirstKeeper<S: Alter> {
-    conn: Connection<S>,
+    conn: Idle<S>,
     alloc: Global,
 }
 
 impl<S: Alter> Model for FirstKeeper<S> {
-    ghost use Rattle.std.specs.Prelude.{◌≡◌, false, IsTrue};
+    ghost use Rattle.std.specs.Prelude.{IsTrue};
     ghost use Rattle.sqlite.specs.State.{HasCleanDisk};
     ghost use Rattle.sqlite.specs.Held.{Held, state, held_code};
     ghost use Rattle.mr_first.specs.FirstDatabase.{IsKeptFirst};
@@ -44,8 +47,7 @@ impl<S: Alter> Model for FirstKeeper<S> {
 
     ghost view = { λ k. k.conn };
 
-    ghost invariant = { λ k. (k.conn.in_transaction ≡ false)
-        × (HasCleanDisk (state S.Store k.conn) → IsTrue (state S.Store k.conn).is_open → IsKeptFirst (state S.Store k.conn)) };
+    ghost invariant = { λ k. HasCleanDisk (state S.Store k.conn) → IsTrue (state S.Store k.conn).is_open → IsKeptFirst (state S.Store k.conn) };
 }
 
 impl FirstKeeper<MemStore> {
@@ -86,6 +88,9 @@ impl<S: Alter + Drop> FirstKeeper<S> {
         ensures strange { IfErr result
             (λ e. e.0 ≡ Refusal.NotAReplica → (c : _) × (e.1 ≡ GivenBack.Connection c)
             × (HasCleanDisk (state S.Store c) → IsSound first_schema (state S.Store conn).committed.trees → HasNoMeta 1 (state S.Store conn).committed.trees)) }
+        ensures failed { IfErr result
+            (λ e. (c : _) → e.1 ≡ GivenBack.Connection c → HasCleanDisk (state S.Store c) → HoldFirst (state S.Store conn).committed.trees → e.0 ≡ Refusal.Store
+            → 0 < (state S.Store c).faults) }
         ensures was_clean { IfErr result (λ e. (c : _) → e.1 ≡ GivenBack.Connection c → HasCleanDisk (state S.Store c) → HasCleanDisk (state S.Store conn)) }
         ensures stays { IfErr result
             (λ e. (c : _) → e.1 ≡ GivenBack.Connection c → HasCleanDisk (state S.Store c) → IsTrue (state S.Store c).is_open
@@ -96,6 +101,9 @@ impl<S: Alter + Drop> FirstKeeper<S> {
         ensures back { IfErr result
             (λ e. (s : _) → e.1 ≡ GivenBack.Store s → IsClean (S.Store.view s) → IsTrue (S.Store.view s).is_open
             → (S.Store.view s).trees ≡ (state S.Store conn).committed.trees) }
+        ensures failed_back { IfErr result
+            (λ e. (s : _) → e.1 ≡ GivenBack.Store s → IsClean (S.Store.view s) → HoldFirst (state S.Store conn).committed.trees → e.0 ≡ Refusal.Store
+            → MoreFaults (state S.Store conn).faults (S.Store.faults s) ⊎ ((state S.Store conn).is_open ≡ false)) }
         ensures crash_back { IfErr result
             (λ e. (s : _) → e.1 ≡ GivenBack.Store s → (trees : Trees) → S.Store.recovers s trees → (state S.Store conn).may_leave trees) }
     {
@@ -105,7 +113,7 @@ impl<S: Alter + Drop> FirstKeeper<S> {
         };
         match claim(&mut conn, alloc) {
             Ok(()) => Ok(FirstKeeper { conn, alloc }),
-            Err(refusal) => Err((refusal, GivenBack::Connection(conn))),
+            Err(refusal) => Err((refusal, GivenBack::Connection(conn.connection))),
         }
     }
 
@@ -140,7 +148,7 @@ impl<S: Alter> FirstKeeper<S> {
         ensures { result ≡ self }
     {
         let FirstKeeper { conn, .. } = self;
-        conn
+        conn.connection
     }
 }
 

@@ -1,33 +1,34 @@
 //! What a keeper answers a question by: the rows of `meta` and `vector` are tested together before others are read, each of which is tested by
 //! itself as it is read.
 
-ghost use Rattle.std.specs.Prelude.{◌≡◌, true, false, IfOk, OnOk};
+ghost use Rattle.std.specs.Prelude.{◌≡◌, true, IfOk, OnOk};
 ghost use Rattle.sqlite.specs.State.{HasCleanDisk};
 ghost use Rattle.sqlite.specs.Held.{state};
 ghost use Rattle.mr_store.specs.Answers.{IsAnswerTo, IsNamedAs};
 ghost use Rattle.mr_rows.specs.Database.{IsKept, tables_in};
 ghost use Rattle.mr_rows.specs.Reads.{ReadsKept};
+ghost use Rattle.mr_sql.specs.FailedReads.{FailsByStoreAlone};
 ghost use Rattle.mr_sql.specs.Numbers.{do_numbers_agree};
 
 use crate::answers::{bookings_of, cancelled_of, cancels_of, errors_of, place_of, rooms_of};
 use crate::numbers::check_numbers;
+use mr_rows::Idle;
 use mr_store::{Answer, Question};
-use sqlite::{Alter, Connection, Error};
+use sqlite::{Alter, Error};
 use std::alloc::Global;
 
 /// What the tables of this database answer to the question, if their numbers agree.
 pub(crate) fn query<S: Alter>(
-    conn: &mut Connection<S>,
+    conn: &mut Idle<S>,
     alloc: Global,
     question: &Question<'_>,
 ) -> Result<Answer, Error>
-    requires autocommit { conn.old.in_transaction ≡ false }
-    ensures autocommit { conn.new.in_transaction ≡ false }
     ensures reads { ReadsKept (state S.Store conn.old) (state S.Store conn.new) result
         (IsAnswerTo question.now (tables_in (state S.Store conn.old).now.trees)) }
     ensures named { IfOk result (IsNamedAs question.now) }
     ensures numbers { HasCleanDisk (state S.Store conn.new) → IsKept (state S.Store conn.old)
         → OnOk result (do_numbers_agree (tables_in (state S.Store conn.old).now.trees) ≡ true) }
+    ensures failed { FailsByStoreAlone (state S.Store conn.old) (state S.Store conn.new) result }
 {
     check_numbers(conn, alloc)?;
     answer(conn, alloc, question)
@@ -35,15 +36,14 @@ pub(crate) fn query<S: Alter>(
 
 /// What the tables of this database answer to the question.
 fn answer<S: Alter>(
-    conn: &mut Connection<S>,
+    conn: &mut Idle<S>,
     alloc: Global,
     question: &Question<'_>,
 ) -> Result<Answer, Error>
-    requires autocommit { conn.old.in_transaction ≡ false }
-    ensures autocommit { conn.new.in_transaction ≡ false }
     ensures reads { ReadsKept (state S.Store conn.old) (state S.Store conn.new) result
         (IsAnswerTo question.now (tables_in (state S.Store conn.old).now.trees)) }
     ensures named { IfOk result (IsNamedAs question.now) }
+    ensures failed { FailsByStoreAlone (state S.Store conn.old) (state S.Store conn.new) result }
 {
     match *question {
         Question::Rooms => Ok(Answer::Rooms(rooms_of(conn, alloc)?)),

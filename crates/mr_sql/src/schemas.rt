@@ -7,7 +7,8 @@ ghost use Rattle.mr_rows.specs.Schema.{no_schema, column_of, first_schema, our_s
 ghost use Rattle.mr_sql.specs.OurSchema.{IsPlainTable, table_told, index_told, schema_told};
 
 use crate::our_tables::{OURS, Wanted};
-use sqlite::{Alter, Connection};
+use mr_rows::Idle;
+use sqlite::Alter;
 use sqlite_items::Items;
 use sqlite_schema::code::Terms;
 use sqlite_schema::schema::{Column, Index, Kind, Schema, Stamps, Table};
@@ -172,27 +173,27 @@ fn has_first(schema: &Schema) -> bool
 }
 
 /// Whether the database has no table, index or view.
-pub(crate) fn is_blank<S: Alter>(conn: &Connection<S>) -> bool
+pub(crate) fn is_blank<S: Alter>(conn: &Idle<S>) -> bool
     ensures same { IsTrue result → (state S.Store conn.now).now.schema ≡ no_schema }
     ensures other { result ≡ false → (state S.Store conn.now).now.schema ≡ no_schema → ⊥ }
 {
-    let schema = conn.schema();
+    let schema = conn.connection.schema();
     schema.tables.len() == 0 && schema.indexes.len() == 0 && schema.views.len() == 0
 }
 
 /// Whether the database has our tables with their indexes, and nothing else. One of the first schema, which has seven of these ten tables,
 /// hasn't.
-pub(crate) fn is_ours<S: Alter>(conn: &Connection<S>) -> bool
+pub(crate) fn is_ours<S: Alter>(conn: &Idle<S>) -> bool
     ensures same { IsTrue result → (state S.Store conn.now).now.schema ≡ our_schema }
     ensures other { result ≡ false → (state S.Store conn.now).now.schema ≡ our_schema → ⊥ }
 {
-    has_ours(conn.schema())
+    has_ours(conn.connection.schema())
 }
 
 /// Whether the database has the tables of the first schema with their indexes, and nothing else.
-pub(crate) fn is_first<S: Alter>(conn: &Connection<S>) -> bool
+pub(crate) fn is_first<S: Alter>(conn: &Idle<S>) -> bool
     ensures same { IsTrue result → (state S.Store conn.now).now.schema ≡ first_schema }
     ensures other { result ≡ false → (state S.Store conn.now).now.schema ≡ first_schema → ⊥ }
 {
-    has_first(conn.schema())
+    has_first(conn.connection.schema())
 }

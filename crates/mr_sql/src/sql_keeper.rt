@@ -1,4 +1,5 @@
 ghost use Rattle.std.specs.Prelude.{◌≡◌, ◌≢◌, ◌<◌, ◌⊎◌, true, false, IfOk, IfErr, IsTrue};
+ghost use Rattle.sqlite_disk.specs.Disk.{MoreFaults};
 ghost use Rattle.sqlite_trees.specs.Tree.{Trees};
 ghost use Rattle.sqlite_trees.specs.View.{IsClean};
 ghost use Rattle.sqlite.specs.Steps.{over_memory, IsEmpty};
@@ -13,6 +14,7 @@ ghost use Rattle.mr_rows.specs.Schema.{no_schema};
 ghost use Rattle.mr_rows.specs.Database.{IsKept, tables_in};
 ghost use Rattle.mr_sql.specs.Found.{AreFresh, IsAdopted, IsResumed, IsTaken, LeavesTables, StaysAs};
 ghost use Rattle.mr_sql.specs.Refused.{AreSomebodys, IsAnothers, IsNobodys};
+ghost use Rattle.mr_sql.specs.Failed.{StoreFailed, HoldReplica};
 
 use crate::adopt::{adopt_tables, recover, retaken};
 use crate::create::create;
@@ -21,7 +23,7 @@ use crate::{load, questions};
 use mr_base::{Refusal, ServerId};
 use mr_part::{Part, Scope};
 use mr_replica::Desk;
-use mr_rows::changes;
+use mr_rows::{Idle, changes};
 use mr_store::{Answer, Fault, Keeper, Question};
 use mr_tables::{Change, MetaRow, Tables};
 use sqlite::{Alter, Connection, Error, ErrorCode, MemStore};
@@ -32,7 +34,7 @@ use std::marker::Model;
 /// that the store failed.
 #[derive(Drop)]
 pub struct SqlKeeper<S: Alter> {
-    conn: Connection<S>,
+    conn: Idle<S>,
     failures: u64,
     alloc: Global,
     // All rows, as the open read them to test them. The first call that needs them takes them, and a change drops them.
@@ -40,7 +42,7 @@ pub struct SqlKeeper<S: Alter> {
 }
 
 impl<S: Alter> Model for SqlKeeper<S> {
-    ghost use Rattle.std.specs.Prelude.{◌≡◌, ℕ, false, IsTrue};
+    ghost use Rattle.std.specs.Prelude.{ℕ, IsTrue};
     ghost use Rattle.std.specs.Coded.{coded×, coded_ℕ};
     ghost use Rattle.sqlite.specs.State.{HasCleanDisk};
     ghost use Rattle.sqlite.specs.Held.{Held, state, held_code};
@@ -53,8 +55,7 @@ impl<S: Alter> Model for SqlKeeper<S> {
 
     ghost view = { λ k. (k.conn, k.failures) };
 
-    ghost invariant = { λ k. (k.conn.in_transaction ≡ false)
-        × (HasCleanDisk (state S.Store k.conn) → IsTrue (state S.Store k.conn).is_open → IsKept (state S.Store k.conn))
+    ghost invariant = { λ k. (HasCleanDisk (state S.Store k.conn) → IsTrue (state S.Store k.conn).is_open → IsKept (state S.Store k.conn))
         × (HasCleanDisk (state S.Store k.conn) → IsTrue (state S.Store k.conn).is_open → AreFresh k.fresh (state S.Store k.conn)) };
 }
 
@@ -129,12 +130,12 @@ impl<S: Alter> Keeper for SqlKeeper<S> {
 }
 
 /// A connection to a database in memory that has no table.
-pub(crate) fn open_connection(alloc: Global) -> Result<Connection<MemStore>, Refusal>
+pub(crate) fn open_connection(alloc: Global) -> Result<Idle<MemStore>, Refusal>
     ensures empty { IfOk result (λ c. IsEmpty (state over_memory c)) }
     ensures cause { IfErr result (λ e. e ≡ Refusal.OutOfMemory) }
 {
     match Connection::open_in_memory(alloc) {
-        Ok(conn) => Ok(conn),
+        Ok(connection) => Ok(Idle { connection }),
         Err(_) => Err(Refusal::OutOfMemory),
     }
 }
@@ -200,6 +201,9 @@ impl<S: Alter + Drop> SqlKeeper<S> {
         ensures store { IfErr result
             (λ e. (c : _) → e.1 ≡ GivenBack.Connection c → e.0 ≡ Refusal.Store → HasCleanDisk (state S.Store c)
             → IsSound no_schema (state S.Store conn).committed.trees ⊎ AreSomebodys (state S.Store conn).committed.trees) }
+        ensures failed { IfErr result
+            (λ e. (c : _) → e.1 ≡ GivenBack.Connection c → HasCleanDisk (state S.Store c) → HoldReplica (state S.Store conn).committed.trees → e.0 ≡ Refusal.Store
+            → 0 < (state S.Store c).faults) }
         ensures was_clean { IfErr result (λ e. (c : _) → e.1 ≡ GivenBack.Connection c → HasCleanDisk (state S.Store c) → HasCleanDisk (state S.Store conn)) }
         ensures stays { IfErr result
             (λ e. (c : _) → e.1 ≡ GivenBack.Connection c → HasCleanDisk (state S.Store c) → IsTrue (state S.Store c).is_open
@@ -210,6 +214,9 @@ impl<S: Alter + Drop> SqlKeeper<S> {
         ensures back { IfErr result
             (λ e. (s : _) → e.1 ≡ GivenBack.Store s → IsClean (S.Store.view s) → IsTrue (S.Store.view s).is_open
             → (S.Store.view s).trees ≡ (state S.Store conn).committed.trees) }
+        ensures failed_back { IfErr result
+            (λ e. (s : _) → e.1 ≡ GivenBack.Store s → IsClean (S.Store.view s) → HoldReplica (state S.Store conn).committed.trees → e.0 ≡ Refusal.Store
+            → MoreFaults (state S.Store conn).faults (S.Store.faults s) ⊎ ((state S.Store conn).is_open ≡ false)) }
         ensures crash_back { IfErr result
             (λ e. (s : _) → e.1 ≡ GivenBack.Store s → (trees : Trees) → S.Store.recovers s trees → (state S.Store conn).may_leave trees) }
     {
@@ -219,7 +226,7 @@ impl<S: Alter + Drop> SqlKeeper<S> {
         };
         match SqlKeeper::adopted(alloc, conn, server, primary, false) {
             Ok(keeper) => Ok(keeper),
-            Err((refusal, conn)) => Err((refusal, GivenBack::Connection(conn))),
+            Err((refusal, conn)) => Err((refusal, GivenBack::Connection(conn.connection))),
         }
     }
 
@@ -243,6 +250,9 @@ impl<S: Alter + Drop> SqlKeeper<S> {
         ensures store { IfErr result
             (λ e. (c : _) → e.1 ≡ GivenBack.Connection c → e.0 ≡ Refusal.Store → HasCleanDisk (state S.Store c)
             → AreSomebodys (state S.Store conn).committed.trees) }
+        ensures failed { IfErr result
+            (λ e. (c : _) → e.1 ≡ GivenBack.Connection c → HasCleanDisk (state S.Store c) → HoldReplica (state S.Store conn).committed.trees → e.0 ≡ Refusal.Store
+            → 0 < (state S.Store c).faults) }
         ensures was_clean { IfErr result (λ e. (c : _) → e.1 ≡ GivenBack.Connection c → HasCleanDisk (state S.Store c) → HasCleanDisk (state S.Store conn)) }
         ensures stays { IfErr result
             (λ e. (c : _) → e.1 ≡ GivenBack.Connection c → HasCleanDisk (state S.Store c) → IsTrue (state S.Store c).is_open
@@ -253,6 +263,9 @@ impl<S: Alter + Drop> SqlKeeper<S> {
         ensures back { IfErr result
             (λ e. (s : _) → e.1 ≡ GivenBack.Store s → IsClean (S.Store.view s) → IsTrue (S.Store.view s).is_open
             → (S.Store.view s).trees ≡ (state S.Store conn).committed.trees) }
+        ensures failed_back { IfErr result
+            (λ e. (s : _) → e.1 ≡ GivenBack.Store s → IsClean (S.Store.view s) → HoldReplica (state S.Store conn).committed.trees → e.0 ≡ Refusal.Store
+            → MoreFaults (state S.Store conn).faults (S.Store.faults s) ⊎ ((state S.Store conn).is_open ≡ false)) }
         ensures crash_back { IfErr result
             (λ e. (s : _) → e.1 ≡ GivenBack.Store s → (trees : Trees) → S.Store.recovers s trees → (state S.Store conn).may_leave trees) }
     {
@@ -262,7 +275,7 @@ impl<S: Alter + Drop> SqlKeeper<S> {
         };
         match SqlKeeper::recovered(alloc, conn, false) {
             Ok(keeper) => Ok(keeper),
-            Err((refusal, conn)) => Err((refusal, GivenBack::Connection(conn))),
+            Err((refusal, conn)) => Err((refusal, GivenBack::Connection(conn.connection))),
         }
     }
 }
@@ -303,8 +316,7 @@ impl<S: Alter + Drop> SqlKeeper<S> {
 
 impl<S: Alter> SqlKeeper<S> {
     /// The keeper of this connection, of which no call has failed, with these rows if the open read them.
-    pub(crate) fn opened(alloc: Global, conn: Connection<S>, fresh: Option<Tables>) -> SqlKeeper<S>
-        requires autocommit { conn.in_transaction ≡ false }
+    pub(crate) fn opened(alloc: Global, conn: Idle<S>, fresh: Option<Tables>) -> SqlKeeper<S>
         requires kept { HasCleanDisk (state S.Store conn) → IsTrue (state S.Store conn).is_open → IsKept (state S.Store conn) }
         requires fresh { HasCleanDisk (state S.Store conn) → IsTrue (state S.Store conn).is_open → AreFresh fresh (state S.Store conn) }
         ensures { result ≡ (conn, 0) }
@@ -320,12 +332,11 @@ impl<S: Alter> SqlKeeper<S> {
     /// The keeper of a connection that was just opened, as `adopt` makes it. It keeps the rows that the open reads, if these are to be kept.
     pub(crate) fn adopted(
         alloc: Global,
-        mut conn: Connection<S>,
+        mut conn: Idle<S>,
         server: ServerId,
         primary: ServerId,
         keep: bool,
-    ) -> Result<SqlKeeper<S>, (Refusal, Connection<S>)>
-        requires autocommit { conn.in_transaction ≡ false }
+    ) -> Result<SqlKeeper<S>, (Refusal, Idle<S>)>
         requires taken { HasCleanDisk (state S.Store conn) → IsTaken (state S.Store conn).committed.trees (state S.Store conn) }
         ensures opens { IfOk result (λ k. HasCleanDisk (state S.Store k.0) → IsTrue (state S.Store k.0).is_open) }
         ensures adopted { IfOk result
@@ -341,6 +352,8 @@ impl<S: Alter> SqlKeeper<S> {
         ensures store { IfErr result
             (λ e. HasCleanDisk (state S.Store e.1) → e.0 ≡ Refusal.Store → IsSound no_schema (state S.Store conn).committed.trees
             ⊎ AreSomebodys (state S.Store conn).committed.trees) }
+        ensures failed { IfErr result (λ e. HasCleanDisk (state S.Store e.1) → HoldReplica (state S.Store conn).committed.trees → e.0 ≡ Refusal.Store
+            → StoreFailed (state S.Store conn) (state S.Store e.1)) }
         ensures stays { IfErr result
             (λ e. HasCleanDisk (state S.Store e.1) → IsTrue (state S.Store e.1).is_open → StaysAs (state S.Store conn).committed.trees (state S.Store e.1)) }
         ensures crash { IfErr result
@@ -356,10 +369,9 @@ impl<S: Alter> SqlKeeper<S> {
     /// The keeper of a connection that was just opened, as `resume` makes it. It keeps the rows that the open reads, if these are to be kept.
     pub(crate) fn recovered(
         alloc: Global,
-        mut conn: Connection<S>,
+        mut conn: Idle<S>,
         keep: bool,
-    ) -> Result<SqlKeeper<S>, (Refusal, Connection<S>)>
-        requires autocommit { conn.in_transaction ≡ false }
+    ) -> Result<SqlKeeper<S>, (Refusal, Idle<S>)>
         requires taken { HasCleanDisk (state S.Store conn) → IsTaken (state S.Store conn).committed.trees (state S.Store conn) }
         ensures opens { IfOk result (λ k. HasCleanDisk (state S.Store k.0) → IsTrue (state S.Store k.0).is_open) }
         ensures resumed { IfOk result
@@ -372,6 +384,8 @@ impl<S: Alter> SqlKeeper<S> {
         ensures cause { IfErr result (λ e. (e.0 ≡ Refusal.OutOfMemory) ⊎ ((e.0 ≡ Refusal.Store) ⊎ (e.0 ≡ Refusal.NotAReplica))) }
         ensures strange { IfErr result (λ e. HasCleanDisk (state S.Store e.1) → e.0 ≡ Refusal.NotAReplica → IsNobodys (state S.Store conn).committed.trees) }
         ensures store { IfErr result (λ e. HasCleanDisk (state S.Store e.1) → e.0 ≡ Refusal.Store → AreSomebodys (state S.Store conn).committed.trees) }
+        ensures failed { IfErr result (λ e. HasCleanDisk (state S.Store e.1) → HoldReplica (state S.Store conn).committed.trees → e.0 ≡ Refusal.Store
+            → StoreFailed (state S.Store conn) (state S.Store e.1)) }
         ensures stays { IfErr result
             (λ e. HasCleanDisk (state S.Store e.1) → IsTrue (state S.Store e.1).is_open → StaysAs (state S.Store conn).committed.trees (state S.Store e.1)) }
         ensures crash { IfErr result
@@ -389,7 +403,7 @@ impl<S: Alter> SqlKeeper<S> {
         ensures { result ≡ self.0 }
     {
         let SqlKeeper { conn, .. } = self;
-        conn
+        conn.connection
     }
 }
 

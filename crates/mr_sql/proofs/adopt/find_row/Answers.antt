@@ -8,6 +8,7 @@ use Rattle.mr_rows.specs.Database.{tables_in}
 use Rattle.mr_rows.proofs.FoundLemmas.{all_held}
 use Rattle.mr_sql.proofs.TakenLemmas.{finds}
 use Rattle.mr_sql.proofs.CrashLemmas.{placed_looked}
+use Rattle.mr_sql.proofs.FailedLemmas.{rows_found, store_failed}
 use Rattle.mr_sql.proofs.adopt.find_row.Goals as goal
 
 pub returns-in-Ok-Some-clause-found : goal.returns-in-Ok-Some-clause-found
@@ -42,3 +43,9 @@ returns-in-Ok-None-clause-survives g c = placed_looked (state g.S.Store c.args.c
 
 pub returns-in-Err-clause-survives : goal.returns-in-Err-clause-survives
 returns-in-Err-clause-survives g c = placed_looked (state g.S.Store c.args.conn.now) (state g.S.Store c.find_all.new.conn) our_schema c.find_all.ensures.looks.0
+
+pub returns-in-Err-clause-failed : goal.returns-in-Err-clause-failed
+returns-in-Err-clause-failed g c trees clean taken held =
+    let old = state g.S.Store c.args.conn.now in
+    let placed : IsPlaced old = record { schema = taken.1; settled = taken.0.settled } in
+    store_failed old (state g.S.Store c.find_all.new.conn) c.in-Err.error c.refusal_of.result c.refusal_of.ensures.memory (c.in-Err.ensures.cause clean placed (rows_found trees old taken.0 held))

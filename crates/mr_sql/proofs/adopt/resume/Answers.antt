@@ -5,6 +5,7 @@ use Rattle.mr_model.specs.Tables.{Tables}
 use Rattle.mr_rows.specs.Schema.{our_schema}
 use Rattle.mr_sql.specs.Refused.{IsAnothers}
 use Rattle.mr_sql.specs.Found.{IsAdopted, Names}
+use Rattle.mr_sql.specs.Failed.{StoreFailed}
 use Rattle.mr_sql.proofs.CreateLemmas.{on_err_any}
 use Rattle.mr_sql.proofs.TakenLemmas.{adopts, anothers_ours, found_stays, handed_on, named_as}
 use Rattle.mr_sql.proofs.CrashLemmas.{looked_alone}
@@ -52,3 +53,8 @@ returns-then-is_of-clause-survives g c =
 pub returns-else-is_of-clause-survives : goal.returns-else-is_of-clause-survives
 returns-else-is_of-clause-survives g c =
     looked_alone (state g.S.Store c.args.conn.now) (state g.S.Store c.find.new.conn) our_schema (IsAdopted c.args.server c.args.primary) c.requires.ours c.find.ensures.survives
+
+pub returns-in_err-tables-clause-failed : goal.returns-in_err-tables-clause-failed
+returns-in_err-tables-clause-failed g c trees clean taken held =
+    handed_on (λ e. e ≡ refusal.Store → StoreFailed (state g.S.Store c.args.conn.now) (state g.S.Store c.find.new.conn)) c.in_err-tables.field-0.0 c.from_residual.result
+    (c.in_err-tables.ensures.failed trees clean (taken, c.requires.ours) held) c.from_residual.ensures.1

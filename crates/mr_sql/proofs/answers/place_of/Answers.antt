@@ -5,6 +5,7 @@ use Rattle.mr_rows.specs.Database.{tables_in}
 use Rattle.mr_sql.specs.PlaceOfId.{AreRowsOf, AreCancelRowsOf, taken_in, chosen}
 use Rattle.mr_rows.proofs.QueryLemmas.{reads_then}
 use Rattle.mr_sql.proofs.AnswerLemmas.{chosen_is}
+use Rattle.mr_sql.proofs.FailedReads.{alone_then}
 use Rattle.mr_sql.proofs.answers.place_of.Goals as goal
 
 pub returns-in_err-others-clause-reads : goal.returns-in_err-others-clause-reads
@@ -29,3 +30,14 @@ returns-clause-reads g c =
     (λ kept others x y. chosen_is room id trees rows.0 rows.1 others.0 others.1 x y) c.in_ok-rows.ensures.reads c.in_ok-others.ensures.reads in
     let same = c.choose.ensures ∙ ap (chosen room rows.0 rows.1) c.choose_taken-other.ensures in
     (read.0, read.1, λ clean kept. let told = read.2 clean kept in (told.0, subst (IsPlaceOf room id (tables_in trees)) (sym same) told.1))
+
+pub returns-in_err-rows-clause-failed : goal.returns-in_err-rows-clause-failed
+returns-in_err-rows-clause-failed g c = λ clean kept r stands. let told = c.rows_of.ensures.failed clean kept r stands in search rules
+
+pub returns-in_err-others-clause-failed : goal.returns-in_err-others-clause-failed
+returns-in_err-others-clause-failed g c = λ clean kept r stands.
+    let a = state g.S.Store c.args.conn.now in
+    let b = state g.S.Store c.rows_of.new.conn in
+    let d = state g.S.Store c.cancel_rows_of.new.conn in
+    let told = alone_then a b d c.in_ok-rows.rows (λ rows. AreRowsOf c.args.id (tables_in a.now.trees) rows.0 rows.1) c.cancel_rows_of.result c.in_ok-rows.ensures.reads c.cancel_rows_of.ensures.reads.0 c.cancel_rows_of.ensures.failed clean kept r stands in
+    search rules

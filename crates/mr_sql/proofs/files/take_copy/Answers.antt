@@ -11,3 +11,8 @@ pub returns-in-Err-clause-strange : goal.returns-in-Err-clause-strange
 returns-in-Err-clause-strange g c clean is =
     let why : c.in-Err.refusal ≡ refusal.NotAReplica = cc in
     c.in-Err.ensures.strange clean why
+
+pub returns-in-Err-clause-failed : goal.returns-in-Err-clause-failed
+returns-in-Err-clause-failed g c clean held is =
+    let why : c.in-Err.refusal ≡ refusal.Store = cc in
+    c.in-Err.ensures.failed clean held why

@@ -5,6 +5,7 @@ use Rattle.mr_rows.specs.Shown.{IsMeta}
 use Rattle.mr_rows.specs.Reads.{IsPlacedIn}
 use Rattle.mr_sql.proofs.FirstTaken.{finds_first}
 use Rattle.mr_sql.proofs.CrashLemmas.{placed_looked}
+use Rattle.mr_sql.proofs.FailedLemmas.{first_rows_found, store_failed}
 use Rattle.mr_sql.proofs.first.find_first_row.Goals as goal
 
 pub returns-in-Ok-Some-clause-found : goal.returns-in-Ok-Some-clause-found
@@ -31,3 +32,9 @@ returns-in-Ok-None-clause-survives g c = placed_looked (state g.S.Store c.args.c
 
 pub returns-in-Err-clause-survives : goal.returns-in-Err-clause-survives
 returns-in-Err-clause-survives g c = placed_looked (state g.S.Store c.args.conn.now) (state g.S.Store c.find_first.new.conn) first_schema c.find_first.ensures.looks.0
+
+pub returns-in-Err-clause-failed : goal.returns-in-Err-clause-failed
+returns-in-Err-clause-failed g c trees clean taken held =
+    let old = state g.S.Store c.args.conn.now in
+    let placed : IsPlacedIn first_schema old = record { schema = taken.1; settled = taken.0.settled } in
+    store_failed old (state g.S.Store c.find_first.new.conn) c.in-Err.error c.refusal_of.result c.refusal_of.ensures.memory (c.in-Err.ensures.cause clean placed (first_rows_found trees old taken.0 held))

@@ -3,9 +3,11 @@ use Rattle.sqlite.specs.Held.{state}
 use Rattle.mr_base.specs.declared.refusals.Refusal.TheVariants as refusal
 use Rattle.mr_rows.specs.Schema.{first_schema}
 use Rattle.mr_sql.specs.Refused.{HasNoMeta}
+use Rattle.mr_sql.specs.Failed.{StoreFailed}
 use Rattle.mr_sql.proofs.CreateLemmas.{on_err_any}
 use Rattle.mr_sql.proofs.TakenLemmas.{failed_of, handed_on}
 use Rattle.mr_sql.proofs.CrashLemmas.{looked_twice}
+use Rattle.mr_sql.proofs.FailedLemmas.{failed_since}
 use Rattle.mr_sql.proofs.first.find_old.Goals as goal
 
 pub returns-in_err-check_number-clause-stays : goal.returns-in_err-check_number-clause-stays
@@ -36,3 +38,15 @@ pub returns-clause-survives : goal.returns-clause-survives
 returns-clause-survives g c =
     looked_twice (state g.S.Store c.args.conn.now) (state g.S.Store c.check_number.new.conn) (state g.S.Store c.find_first_row.new.conn) first_schema
     (λ clean trees taken. c.in_ok-check_number.ensures.taken first_schema trees (inr refl) (c.find_first_row.ensures.clean clean) taken) (c.check_number.ensures.survives first_schema (inr refl)) c.find_first_row.ensures.survives
+
+pub returns-in_err-check_number-clause-failed : goal.returns-in_err-check_number-clause-failed
+returns-in_err-check_number-clause-failed g c trees clean taken held =
+    handed_on (λ e. e ≡ refusal.Store → StoreFailed (state g.S.Store c.args.conn.now) (state g.S.Store c.check_number.new.conn)) c.in_err-check_number.field-0.0 c.from_residual.result
+    (c.in_err-check_number.ensures.failed first_schema trees (inr refl) clean taken) c.from_residual.ensures.1
+
+pub returns-clause-failed : goal.returns-clause-failed
+returns-clause-failed g c trees clean taken held =
+    let between = c.in_ok-check_number.ensures.taken first_schema trees (inr refl) (c.find_first_row.ensures.clean clean) taken in
+    failed_of c.find_first_row.result _ _
+    (λ e told is. failed_since (state g.S.Store c.args.conn.now) (state g.S.Store c.check_number.new.conn) (state g.S.Store c.find_first_row.new.conn) _ (c.check_number.ensures.survives first_schema (inr refl)) between.0.is_open (told is))
+    (c.find_first_row.ensures.failed trees clean between held)

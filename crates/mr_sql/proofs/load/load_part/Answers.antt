@@ -1,42 +1,36 @@
-use Rattle.std.proofs.Common.{◌≡◌, false, Ok, Some, None, sym, ap, subst, ◌∙◌}
+use Rattle.std.proofs.Common.{sym, ap, ◌∙◌, rules}
 use Rattle.sqlite.specs.Held.{state}
-use Rattle.mr_model.specs.Replica.{Replica}
-use Rattle.mr_model.specs.Tables.{Stands}
-use Rattle.mr_agree.specs.Ids.{has_id}
-use Rattle.mr_part.specs.NextId.{id_given}
-use Rattle.mr_part.specs.Parts.{PartView, IsPartOf}
+use Rattle.mr_model.specs.Scopes.{in_scope}
 use Rattle.mr_part.specs.ScopeOf.{scope_of}
-use Rattle.mr_store.specs.Taken.{is_taken}
 use Rattle.mr_rows.specs.Database.{tables_in}
-use Rattle.mr_rows.proofs.QueryLemmas.{in_use, uses_made, uses_then}
+use Rattle.mr_rows.proofs.QueryLemmas.{uses_made, told_two}
+use Rattle.mr_sql.specs.Enough.{AreEnough}
+use Rattle.mr_tables.specs.Summary.{summary_of}
+use Rattle.mr_store.proofs.NextIds.{given_free}
+use Rattle.mr_sql.proofs.FailedReads.{alone_used, memory_alone}
 use Rattle.mr_sql.proofs.load.load_part.Goals as goal
 
-pub returns-in-Some-clause-reads : goal.returns-in-Some-clause-reads
-returns-in-Some-clause-reads g c =
-    let a = state g.S.Store c.args.conn.now in
-    let t = tables_in a.now.trees in
-    let scope = scope_of c.args.scope.now in
-    let part = c.in_ok-part.part in
-    let id = c.in-Some.id in
-    let given : id_given scope part.summary ≡ Some id = sym c.id_given.ensures ∙ c.in-Some.is in
-    uses_then a (state g.S.Store c.part_in.new.conn) (state g.S.Store c.with_free_id.new.conn) part
-    (λ p. (r : Replica) → Stands t r → IsPartOf p scope r) c.with_free_id.result
-    (λ db p. (p ≡ part) × (has_id id (tables_in db.trees) ≡ false))
-    (λ p. ((r : Replica) → Stands t r → IsPartOf p scope r) × (is_taken (id_given scope p.summary) t ≡ false))
-    (λ held p of free. (
-      subst (λ (q : PartView). (r : Replica) → Stands t r → IsPartOf q scope r) (sym free.0) of,
-      ap (λ (q : PartView). is_taken (id_given scope q.summary) t) free.0 ∙ ap (λ i. is_taken i t) given ∙ free.1,
-    ))
-    c.in_ok-part.ensures.reads (in_use (state g.S.Store c.part_in.new.conn) (state g.S.Store c.with_free_id.new.conn) c.with_free_id.result _ c.with_free_id.ensures.reads)
+pub returns-in_err-tables-clause-reads : goal.returns-in_err-tables-clause-reads
+returns-in_err-tables-clause-reads g c = let read = c.enough_for.ensures.reads in (read.0, read.1, λ clean held. (search rules, search rules))
 
-pub returns-in-None-clause-reads : goal.returns-in-None-clause-reads
-returns-in-None-clause-reads g c =
-    let a = state g.S.Store c.args.conn.now in
-    let t = tables_in a.now.trees in
+pub returns-clause-reads : goal.returns-clause-reads
+returns-clause-reads g c =
+    let old = state g.S.Store c.args.conn.now in
     let scope = scope_of c.args.scope.now in
-    let part = c.in_ok-part.part in
-    let given : id_given scope part.summary ≡ None = sym c.id_given.ensures ∙ c.in-None.is in
-    uses_made a (state g.S.Store c.part_in.new.conn) part (λ p. (r : Replica) → Stands t r → IsPartOf p scope r) (Ok part)
-    (λ p. ((r : Replica) → Stands t r → IsPartOf p scope r) × (is_taken (id_given scope p.summary) t ≡ false))
-    (λ held of. (of, ap (λ i. is_taken i t) given))
-    c.in_ok-part.ensures.reads
+    uses_made old (state g.S.Store c.enough_for.new.conn) c.in_ok-tables.tables (AreEnough scope (tables_in old.now.trees)) c.free_part.result _
+    (λ held enough. told_two c.free_part.result _ _ _
+    (λ part tells free. (λ a stands. tells a stands.sound (enough.0 ∙ ap (in_scope scope) stands.are), sym (enough.1 part.summary) ∙ free))
+    c.free_part.ensures.part c.free_part.ensures.free)
+    c.in_ok-tables.ensures.reads
+
+pub returns-in_err-tables-clause-failed : goal.returns-in_err-tables-clause-failed
+returns-in_err-tables-clause-failed g c = λ clean kept r stands. let told = c.enough_for.ensures.failed clean kept r stands in search rules
+
+pub returns-clause-failed : goal.returns-clause-failed
+returns-clause-failed g c =
+    let old = state g.S.Store c.args.conn.now in
+    let t = tables_in old.now.trees in
+    let scope = scope_of c.args.scope.now in
+    alone_used old (state g.S.Store c.enough_for.new.conn) c.in_ok-tables.tables (AreEnough scope t) c.free_part.result c.in_ok-tables.ensures.reads
+    (λ r stands enough. memory_alone c.free_part.result
+    (c.free_part.ensures.only r stands.sound (enough.0 ∙ ap (in_scope scope) stands.are) (enough.1 (summary_of r) ∙ given_free scope t r stands)))

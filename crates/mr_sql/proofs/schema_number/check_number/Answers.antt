@@ -1,6 +1,7 @@
 use Rattle.std.proofs.Common.{subst}
 use Rattle.sqlite.specs.Held.{state}
 use Rattle.mr_sql.specs.Refused.{HasOtherNumber}
+use Rattle.mr_sql.proofs.FailedLemmas.{store_failed}
 use Rattle.mr_sql.proofs.NumberLemmas.{placed_as, looked_stays, looked_taken}
 use Rattle.mr_sql.proofs.CrashLemmas.{placed_looked}
 use Rattle.mr_sql.proofs.schema_number.check_number.Goals as goal
@@ -31,3 +32,8 @@ returns-in-Ok-true-clause-survives g c under two = placed_looked (state g.S.Stor
 
 pub returns-in-Err-clause-survives : goal.returns-in-Err-clause-survives
 returns-in-Err-clause-survives g c under two = placed_looked (state g.S.Store c.args.conn.now) (state g.S.Store c.has_other_number.new.conn) under (c.has_other_number.ensures.looks under two).0
+
+pub returns-in-Err-clause-failed : goal.returns-in-Err-clause-failed
+returns-in-Err-clause-failed g c under trees two clean taken =
+    let old = state g.S.Store c.args.conn.now in
+    store_failed old (state g.S.Store c.has_other_number.new.conn) c.in-Err.error c.refusal_of.result c.refusal_of.ensures.memory (c.in-Err.ensures.cause under two clean (placed_as under trees old taken) tt)

@@ -1,9 +1,11 @@
 use Rattle.std.proofs.Common.{◌≡◌, map, rules}
+use Rattle.std.specs.Prelude.{⊤}
 use Rattle.std.specs.List.Sorted.{IsPermutation}
 use Rattle.sqlite.specs.Held.{state}
 use Rattle.mr_rows.specs.Shown.{columns_from}
 use Rattle.mr_rows.specs.Reads.{IsPlacedIn}
 use Rattle.mr_rows.proofs.QueryLemmas.{made_where, told_so}
+use Rattle.mr_sql.proofs.FailedLemmas.{only_memory}
 use Rattle.mr_sql.proofs.NumberLemmas.{other_number}
 use Rattle.mr_sql.proofs.schema_number.has_other_number.Goals as goal
 
@@ -16,4 +18,10 @@ returns-clause-looks g c under two =
     let shown = c.in_ok-rows.rows.items in
     let same : c.deref.result.now ≡ shown = search rules in
     made_where (IsPlacedIn under) old (state g.S.Store c.meta_rows.new.conn) c.in_ok-rows.rows (λ rows. IsPermutation (map (columns_from 1 7) (old.now.trees 0)) rows.items) c.is_other_alone.result _
-    (λ here read. told_so c.is_other_alone.result _ _ (λ other alone is. other_number c.args.number old.now.trees shown read (alone is)) (rw same at c.is_other_alone.ensures)) (c.in_ok-rows.ensures.looks under two)
+    (λ here read. told_so c.is_other_alone.result _ _ (λ other alone is. other_number c.args.number old.now.trees shown read (alone is)) (rw same at c.is_other_alone.ensures.other)) (c.in_ok-rows.ensures.looks under two)
+
+pub returns-in_err-rows-clause-cause : goal.returns-in_err-rows-clause-cause
+returns-in_err-rows-clause-cause g c under two = λ clean here rows. let told = c.meta_rows.ensures.cause under two clean here rows in search rules
+
+pub returns-clause-cause : goal.returns-clause-cause
+returns-clause-cause g c under two = only_memory under (λ _. ⊤) (state g.S.Store c.args.conn.now) (state g.S.Store c.meta_rows.new.conn) c.is_other_alone.result c.is_other_alone.ensures.memory

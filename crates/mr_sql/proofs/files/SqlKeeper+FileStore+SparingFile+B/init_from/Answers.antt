@@ -1,7 +1,9 @@
-use Rattle.std.proofs.Common.{◌≡◌, IsTrue, refl, sym, subst}
+use Rattle.std.proofs.Common.{◌≡◌, ◌<◌, IsTrue, sym, subst}
 use Rattle.sqlite.specs.State.{HasCleanDisk}
 use Rattle.sqlite.specs.Files.{file_state}
 use Rattle.mr_sql.specs.Found.{StaysAs}
+use Rattle.mr_sql.specs.Failed.{HoldReplica}
+use Rattle.mr_sql.proofs.FailedLemmas.{disk_failed}
 use Rattle.mr_sql.proofs.files.SqlKeeper+FileStore+SparingFile+B.init_from.Goals as goal
 
 pub returns-in-Ok-adopted-clause-opened : goal.returns-in-Ok-adopted-clause-opened
@@ -11,7 +13,7 @@ returns-in-Ok-adopted-clause-opened g c clean now =
 pub returns-in-Err-adopted-clause-strange : goal.returns-in-Err-adopted-clause-strange
 returns-in-Err-adopted-clause-strange g c is = (
   c.in-Err-adopted.conn,
-  refl,
+  cc,
   λ clean. ((file_state c.in-Ok.conn).committed.trees, c.in-Ok.ensures.found (c.in-Err-adopted.ensures.was_clean clean), c.in-Err-adopted.ensures.strange clean is),
 )
 
@@ -28,3 +30,11 @@ returns-in-Err-adopted-clause-crash g c other given clean =
     let same : c.in-Err-adopted.conn ≡ other = cc in
     let early : HasCleanDisk (file_state c.in-Err-adopted.conn) = subst (λ h. HasCleanDisk (file_state h)) (sym same) clean in
     ((file_state c.in-Ok.conn).committed.trees, c.in-Ok.ensures.found (c.in-Err-adopted.ensures.was_clean early), λ trees left. c.in-Err-adopted.ensures.crash early trees (subst (λ h. (file_state h).may_leave trees) (sym same) left))
+
+pub returns-in-Err-adopted-clause-failed : goal.returns-in-Err-adopted-clause-failed
+returns-in-Err-adopted-clause-failed g c other given clean db holds held is =
+    let same : c.in-Err-adopted.conn ≡ other = cc in
+    let early : HasCleanDisk (file_state c.in-Err-adopted.conn) = subst (λ h. HasCleanDisk (file_state h)) (sym same) clean in
+    let first = c.in-Err-adopted.ensures.was_clean early in
+    let failed = c.in-Err-adopted.ensures.failed early (subst HoldReplica (sym ((c.in-Ok.ensures.found first).0 db holds)) held) is in
+    subst (λ h. 0 < (file_state h).faults) same (disk_failed (file_state c.in-Ok.conn) (file_state c.in-Err-adopted.conn) (c.in-Ok.ensures.taken first).is_open c.in-Ok.ensures.unlimited failed)

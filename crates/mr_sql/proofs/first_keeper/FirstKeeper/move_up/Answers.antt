@@ -14,7 +14,7 @@ returns-in-Ok-clause-raised g c =
     let new = state g.S.Store c.move_up.new.conn in
     let whole : HasCleanDisk new → IsRaised old.now.trees new.now.trees = λ clean.
     let moves = c.in-Ok.ensures.moved clean (c.in-Ok.ensures.lasts clean) in
-    let kept = c.self.invariant.1 (clean_before c.in-Ok.ensures.survives clean) moves.0 in
+    let kept = c.self.invariant (clean_before c.in-Ok.ensures.survives clean) moves.0 in
     raised_to old.now.trees new.now.trees (moves.1 kept).0.tables_are in
     subst (λ (k : Held g.row.S.Denot × ℕ). HasCleanDisk (state g.S.Store k.0) → IsRaised (state g.S.Store c.args.self).now.trees (state g.S.Store k.0).now.trees) (sym c.opened.ensures)
     (subst (λ (h : Held g.row.S.Denot). HasCleanDisk new → IsRaised (state g.S.Store h).now.trees new.now.trees) c.self.view_is whole)
@@ -25,7 +25,7 @@ returns-in-Ok-clause-settled g c =
     let whole : HasCleanDisk new → LeavesTables new = λ clean.
     let now = c.in-Ok.ensures.lasts clean in
     let moves = c.in-Ok.ensures.moved clean now in
-    let kept = c.self.invariant.1 (clean_before c.in-Ok.ensures.survives clean) moves.0 in
+    let kept = c.self.invariant (clean_before c.in-Ok.ensures.survives clean) moves.0 in
     alone new (moves.1 kept).0.kept (λ db left. g.met.S.Store.settled c.move_up.new.conn.store db now left) in
     subst (λ (k : Held g.row.S.Denot × ℕ). HasCleanDisk (state g.S.Store k.0) → LeavesTables (state g.S.Store k.0)) (sym c.opened.ensures) whole
 
@@ -36,6 +36,6 @@ returns-in-Err-clause-crash g c =
     let whole : HasCleanDisk new → IsTrue old.is_open → (trees : Trees) → new.may_leave trees → old.may_leave trees ⊎ IsRaised old.now.trees trees = λ clean was_open trees left.
     elim (c.in-Err.ensures.survives.crash clean trees left) [
       | inl before ↦ inl before
-      | inr moves ↦ inr (raised_to old.now.trees trees (moves (c.self.invariant.1 (clean_before c.in-Err.ensures.survives clean) was_open)))
+      | inr moves ↦ inr (raised_to old.now.trees trees (moves (c.self.invariant (clean_before c.in-Err.ensures.survives clean) was_open)))
     ] in
     subst (λ (h : Held g.row.S.Denot). HasCleanDisk new → IsTrue (state g.S.Store h).is_open → (trees : Trees) → new.may_leave trees → (state g.S.Store h).may_leave trees ⊎ IsRaised (state g.S.Store h).now.trees trees) c.self.view_is whole

@@ -1,7 +1,11 @@
-use Rattle.std.proofs.Common.{◌≡◌, ◌∙◌, IsTrue, inl, inr, refl, sym, subst}
+use Rattle.std.proofs.Common.{◌≡◌, ◌⊎◌, ◌<◌, ◌∙◌, false, IsTrue, inl, inr, sym, subst}
+use Rattle.sqlite_disk.specs.Disk.{MoreFaults}
+use Rattle.sqlite_trees.specs.View.{IsClean}
 use Rattle.sqlite.specs.State.{HasCleanDisk}
 use Rattle.sqlite.specs.Held.{Held, state}
+use Rattle.mr_rows.specs.Schema.{first_schema}
 use Rattle.mr_sql.specs.Found.{StaysAs}
+use Rattle.mr_sql.proofs.FailedLemmas.{disk_failed}
 use Rattle.mr_sql.proofs.FirstTaken.{alone_first}
 use Rattle.mr_sql.proofs.TakenLemmas.{committed_are}
 use Rattle.mr_sql.proofs.first_keeper.FirstKeeper.resume.Goals as goal
@@ -16,7 +20,7 @@ returns-in-Ok-claim-clause-settled g c clean now =
 
 pub returns-in-Err-claim-clause-strange : goal.returns-in-Err-claim-clause-strange
 returns-in-Err-claim-clause-strange g c is =
-    (c.claim.new.conn, refl, λ clean. c.in-Err-claim.ensures.strange _ clean (c.in-Ok.ensures.taken (c.claim.ensures.clean clean)) is)
+    (c.claim.new.conn, cc, λ clean. c.in-Err-claim.ensures.strange _ clean (c.in-Ok.ensures.taken (c.claim.ensures.clean clean)) is)
 
 pub returns-in-Err-claim-clause-stays : goal.returns-in-Err-claim-clause-stays
 returns-in-Err-claim-clause-stays g c other given =
@@ -33,3 +37,18 @@ returns-in-Err-claim-clause-crash g c other given clean trees left =
       | inl before ↦ g.met.S.Store.settled c.in-Ok.conn.store trees taken.is_open before ∙ committed_are _ _ taken
       | inr none ↦ absurd (none _ taken)
     ]
+
+pub returns-in-Err-claim-clause-failed : goal.returns-in-Err-claim-clause-failed
+returns-in-Err-claim-clause-failed g c other given clean held is =
+    let same : c.claim.new.conn ≡ other = cc in
+    let early : HasCleanDisk (state g.S.Store c.claim.new.conn) = subst (λ (h : Held g.row.S.Denot). HasCleanDisk (state g.S.Store h)) (sym same) clean in
+    let taken = c.in-Ok.ensures.taken (c.claim.ensures.clean early) in
+    subst (λ (h : Held g.row.S.Denot). 0 < (state g.S.Store h).faults) same
+    (disk_failed (state g.S.Store c.in-Ok.conn) (state g.S.Store c.claim.new.conn) taken.is_open c.in-Ok.ensures.unlimited (c.in-Err-claim.ensures.failed _ early taken held is))
+
+pub returns-in-Err-clause-failed_back : goal.returns-in-Err-clause-failed_back
+returns-in-Err-clause-failed_back g c other given clean held is =
+    let one : c.in-Err.store ≡ other = cc in
+    let early : IsClean (g.S.Store.view c.in-Err.store) = subst (λ s. IsClean (g.S.Store.view s)) (sym one) clean in
+    let failed = c.in-Err.ensures.failed early first_schema held.0 (λ out. let both = sym (c.refusal_of.ensures.memory out) ∙ is in cc) in
+    subst (λ s. MoreFaults (state g.S.Store c.args.conn).faults (g.S.Store.faults s) ⊎ ((state g.S.Store c.args.conn).is_open ≡ false)) one failed

@@ -26,3 +26,6 @@ returns-in-Err-clause-crash g c clean trees left =
 
 pub opened-requires-clause-fresh : goal.opened-requires-clause-fresh
 opened-requires-clause-fresh g c clean now = c.in-Ok.ensures.fresh _ clean (c.requires.taken (c.adopt_tables.ensures.clean clean)) now
+
+pub returns-in-Err-clause-failed : goal.returns-in-Err-clause-failed
+returns-in-Err-clause-failed g c clean held is = c.in-Err.ensures.failed _ clean (c.requires.taken (c.adopt_tables.ensures.clean clean)) held is

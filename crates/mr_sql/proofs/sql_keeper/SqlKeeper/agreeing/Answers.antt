@@ -10,7 +10,7 @@ pub returns-in-Ok-clause-settled : goal.returns-in-Ok-clause-settled
 returns-in-Ok-clause-settled g c clean now settled u left =
     let read = c.in-Ok.ensures.reads in
     let before = read.1 clean now in
-    let kept = c.self.invariant.1 (clean_before read.0 clean) before.0 in
+    let kept = c.self.invariant.0 (clean_before read.0 clean) before.0 in
     let same = before.1 (kept, before.0) in
     let alone = subst (λ k. LeavesTables (state g.S.Store k.0)) (sym c.self.view_is) settled in
     elim (read.0.crash clean left.0 left.1)
