@@ -27,7 +27,8 @@ use Rattle.mr_model.proofs.TruncateRows.{front-seq}
 use Rattle.mr_model.proofs.UniqueReplay.{some_inj, none_some}
 use Rattle.mr_tables.specs.Change.{put_all, rows_without, id_before, ChangeView, changed}
 use Rattle.mr_tables.specs.Written.{not_booked, not_erred, not_cancelled, with_places}
-use Rattle.mr_tables.proofs.Putting.{InOrder, Lacks, number_order, name_order, puts_make, change_makes, id_before_from}
+use Rattle.mr_tables.specs.TableOrders.{InOrder, number_order, name_order, id_before_from}
+use Rattle.mr_tables.proofs.Putting.{Lacks, puts_make, change_makes}
 
 -- ---- one table of writes
 

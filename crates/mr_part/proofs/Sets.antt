@@ -18,7 +18,7 @@ use Rattle.mr_model.proofs.Members.{has_all, all_has, Sorted, sorted_same, any_h
 use Rattle.mr_model.proofs.MembersAlike.{bool_same}
 use Rattle.mr_replay.proofs.IdKeys.{at_is}
 use Rattle.mr_tables.proofs.Naming.{before-cmp}
-use Rattle.mr_tables.proofs.Putting.{name_order}
+use Rattle.mr_tables.specs.TableOrders.{name_order}
 use Rattle.mr_part.specs.Sets.{has_id, IsSetOf}
 use Rattle.mr_replay.specs.Seen.{has_room}
 

@@ -108,7 +108,7 @@ pub(crate) fn ends_of(slot: Slot, room: &RoomName) -> (IndexKey, IndexKey)
 }
 
 /// The name, with zeros up to 16 bytes.
-fn padded(room: &RoomName) -> [u8; 16]
+pub fn padded(room: &RoomName) -> [u8; 16]
     ensures { result ≡ padded room.now }
 {
     let name = room.as_str().as_bytes();

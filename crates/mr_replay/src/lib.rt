@@ -15,6 +15,7 @@ ghost use Rattle.mr_replay.specs.BoardLaws.{OneBoard, ExecutingHolds, UndoingHol
 ghost use Rattle.mr_replay.specs.Bookings.{BookingsReplay};
 
 pub use board::Board;
+pub use index::padded;
 pub use overlay::Overlay;
 pub use rows::{Place, Row, Standing, Trace, UndoRow};
 pub use seen::SeenBoard;
