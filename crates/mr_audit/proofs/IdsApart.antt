@@ -7,7 +7,7 @@ use Rattle.mr_model.specs.Replica.{is_among}
 use Rattle.mr_model.specs.Queries.{booking_id, error_id, cancelled_id, cancel_id}
 use Rattle.mr_model.proofs.Members.{all_has, map_has, not_among}
 use Rattle.mr_tables.specs.Change.{id_before}
-use Rattle.mr_tables.proofs.Putting.{InOrder, id_order}
+use Rattle.mr_tables.specs.TableOrders.{InOrder, id_order}
 use Rattle.mr_agree.specs.Agreeing.{row_ids, are_distinct}
 use Rattle.mr_audit.specs.KeyOrders.{AreByRisingId}
 use Rattle.mr_audit.specs.SideBySide.{are_apart, are_tables_apart, is_placed}

@@ -7,7 +7,7 @@ use Rattle.mr_model.specs.Writes.{Id, same_id}
 use Rattle.mr_model.specs.Changes.{IdBefore}
 use Rattle.mr_model.proofs.Members.{all_has, has_all, same_id-true, same_id_from, same_id_refl}
 use Rattle.mr_tables.specs.Change.{id_before}
-use Rattle.mr_tables.proofs.Putting.{InOrder, id_order, id_before-true, id_before_from}
+use Rattle.mr_tables.specs.TableOrders.{InOrder, id_order, id_before-true, id_before_from}
 use Rattle.mr_agree.specs.Agreeing.{Note, are_numbers_in_order}
 use Rattle.mr_audit.proofs.SortedIds.{index_has}
 use Rattle.mr_audit.specs.Turns.{comes_before, is_same_note, are_in_turn, are_two_in_turn, FrontFits, BehindFits}

@@ -11,7 +11,8 @@ use Rattle.mr_model.specs.Writes.{Id, same_id}
 use Rattle.mr_model.specs.Replica.{is_among}
 use Rattle.mr_model.proofs.Members.{any_has, has_any, has_map, among_not, same_id-true}
 use Rattle.mr_tables.specs.Change.{id_before}
-use Rattle.mr_tables.proofs.Putting.{InOrder, id_order, one_a_key}
+use Rattle.mr_tables.specs.TableOrders.{InOrder, id_order}
+use Rattle.mr_tables.proofs.Putting.{one_a_key}
 
 module _ {R : Type 0} (key : R → Id) (id : Id) (p : R → Bool) (own : (r : R) → p r ≡ true → key r ≡ id) (rows : List R) where
   pub none_passes : is_among id (map key rows) ≡ false → list_any p rows ≡ false

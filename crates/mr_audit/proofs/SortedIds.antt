@@ -1,7 +1,6 @@
 -- What a binary search for an id finds in rows that stand in the order of their ids.
-use Rattle.std.proofs.Common.{◌≡◌, refl, sym, ap, ◌∙◌, subst, ℕ, zero, suc, ◌+◌, ◌<◌, ◌≤◌, add-one, Bool, true, false, List, [], ◌∷◌, length, map, inl, inr, arith, slice_index_or, ◌⊎◌}
+use Rattle.std.proofs.Common.{◌≡◌, refl, sym, ap, ◌∙◌, subst, ℕ, zero, suc, ◌+◌, ◌<◌, ◌≤◌, Bool, true, false, List, [], ◌∷◌, length, map, inl, inr, arith, slice_index_or, ◌⊎◌}
 use Rattle.std.proofs.lemmas.Bool.{true≢false, cases_order}
-use Rattle.std.specs.List.{AllByRecursion}
 use Rattle.std.specs.List.Sorted.{IsPartitionedBy, IsPartitionPoint}
 use Rattle.mr_model.specs.Dropped.{Has}
 use Rattle.mr_model.specs.Writes.{Id, same_id}
@@ -9,8 +8,7 @@ use Rattle.mr_model.specs.Replica.{is_among}
 use Rattle.mr_model.proofs.Members.{all_has, has_all, has_among, has_map, not_among, map_has}
 use Rattle.mr_tables.specs.Change.{id_before}
 use Rattle.mr_model.specs.Changes.{IdBefore, RiseById}
-use Rattle.mr_tables.specs.Rise.{Rise}
-use Rattle.mr_tables.proofs.Putting.{InOrder, id_order, id_before-true, id_before_from}
+use Rattle.mr_tables.specs.TableOrders.{InOrder, id_order, id_before-true, id_before_from}
 
 -- ---- rows at places
 
@@ -90,29 +88,6 @@ module _ {R : Type 0} (key : R → Id) (id : Id) where
             side (inl p) = here e (ap (λ j. key (slice_index_or rows j e)) (sym p) ∙ same)
             side (inr (inl before)) = front k e l before same
             side (inr (inr after)) = behind k e l after same
-
--- ---- rows of which each stands before the next
-
-pub rise_in_order : {R : Type 0} (key : R → Id) (rows : List R) → Rise id_before key rows → InOrder id_before key rows
-rise_in_order key [] rise = tt
-rise_in_order {R} key (x ∷ rows) rise =
-    let later = rise_in_order key rows
-    (λ k d l. subst (λ j. id_before (key (slice_index_or rows k d)) (key (slice_index_or rows j d)) ≡ true) (sym (add-one k))
-    (subst (λ j. id_before (key (slice_index_or rows k d)) (key (slice_index_or (x ∷ rows) j d)) ≡ true) (add-one (suc k)) (rise (suc k) d (omega (arith, l)))))
-    in
-    (first rows (rise 0 x) later, later)
-  where
-    first : (ys : List R) → (0 + 1 < length (x ∷ ys) → id_before (key x) (key (slice_index_or (x ∷ ys) 1 x)) ≡ true) → InOrder id_before key ys → AllByRecursion (λ y. id_before (key x) (key y) ≡ true) ys
-    first [] b s = tt
-    first (y ∷ ys) b s =
-        let l = b (omega arith) in
-        (l, has_all (λ z. id_before (key x) (key z) ≡ true) ys (λ z h. id_order.transitive (key x) (key y) (key z) l (all_has (λ u. id_before (key y) (key u) ≡ true) z ys s.0 h)))
-
-pub in_order_rise : {R : Type 0} (key : R → Id) (rows : List R) → InOrder id_before key rows → Rise id_before key rows
-in_order_rise {R} key rows s k d l = go rows s k d l
-  where
-    go : (xs : List R) → InOrder id_before key xs → (j : ℕ) (e : R) → j + 1 < length xs → id_before (key (slice_index_or xs j e)) (key (slice_index_or xs (j + 1) e)) ≡ true
-    go xs o j e m = later key (key e) xs o j (j + 1) e (omega arith) m
 
 -- the ids of such rows rise
 pub rising_ids : {R : Type 0} (key : R → Id) (rows : List R) → InOrder id_before key rows → RiseById (map key rows)

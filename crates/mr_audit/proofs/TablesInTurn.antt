@@ -8,7 +8,7 @@ use Rattle.mr_model.specs.Tables.{Tables}
 use Rattle.mr_model.proofs.Members.{has_left, has_right, has_split, map_has, has_map, all_has, has_all}
 use Rattle.mr_tables.specs.Change.{id_before}
 use Rattle.mr_tables.specs.Rise.{Rise}
-use Rattle.mr_tables.proofs.Putting.{InOrder, id_before-true}
+use Rattle.mr_tables.specs.TableOrders.{InOrder, id_before-true}
 use Rattle.mr_agree.specs.Agreeing.{Note, log_note, error_note, cancel_note, notes, do_two_agree}
 use Rattle.mr_agree.proofs.AgreeCounts.{all_true}
 use Rattle.mr_audit.specs.KeyOrders.{AreByRisingId}

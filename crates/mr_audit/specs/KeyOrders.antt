@@ -2,7 +2,7 @@
 use Rattle.mr_model.specs.Tables.{Tables}
 use Rattle.mr_model.specs.Queries.{booking_id, error_id, cancelled_id, cancel_id, log_id}
 use Rattle.mr_tables.specs.Change.{id_before}
-use Rattle.mr_tables.proofs.Putting.{InOrder}
+use Rattle.mr_tables.specs.TableOrders.{InOrder}
 
 -- the rows of each table of writes stand by rising id, so that none is there twice
 pub record AreByRisingId (t : Tables) : Type 0 where

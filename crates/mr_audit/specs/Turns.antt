@@ -5,7 +5,7 @@ use Rattle.mr_model.specs.Writes.{same_id}
 use Rattle.mr_model.specs.Tables.{Tables}
 use Rattle.mr_tables.specs.Change.{id_before}
 use Rattle.mr_tables.specs.Rise.{Rise}
-use Rattle.mr_tables.proofs.Putting.{InOrder}
+use Rattle.mr_tables.specs.TableOrders.{InOrder}
 use Rattle.mr_agree.specs.Agreeing.{Note, log_note, error_note, cancel_note, notes, are_numbers_in_order}
 
 -- the id is before the other one, and of one server's writes so are the time and the number

@@ -4,7 +4,7 @@ ghost use Rattle.mr_model.specs.Queries.{is_marked};
 ghost use Rattle.mr_agree.specs.Agreeing.{is_taken_by, do_cancels_agree};
 ghost use Rattle.mr_audit.specs.KeyOrders.{AreByRisingId};
 
-use crate::id_rows::{IdRow, RowId, find};
+use crate::id_rows::{RowId, find, row_id};
 use mr_base::WriteId;
 use mr_tables::{CancelRow, CancelledRow, Tables};
 
@@ -63,8 +63,8 @@ fn is_done(tables: &Tables, cancel: &CancelRow) -> bool
 fn is_taken_by(cancel: &CancelRow, row: &CancelledRow) -> bool
     ensures { result ≡ is_taken_by cancel.now row.now }
 {
-    let id = cancel.row_id().is_same(id_of(row.by));
-    let target = id_of(cancel.target).is_same(row.row_id());
+    let id = row_id(cancel).is_same(id_of(row.by));
+    let target = id_of(cancel.target).is_same(row_id(row));
     let room = cancel.room == row.room;
     let mark = is_mark_kept(cancel.seq, row.committed);
     id & cancel.done & target & room & mark

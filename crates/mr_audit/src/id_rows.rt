@@ -2,12 +2,11 @@ ghost use Rattle.std.specs.Prelude.{◌≡◌, ◌↔◌, false, map, MatchOptio
 ghost use Rattle.mr_model.specs.Writes.{Id, same_id};
 ghost use Rattle.mr_model.specs.Replica.{is_among};
 ghost use Rattle.mr_model.specs.Dropped.{Has};
-ghost use Rattle.mr_model.specs.Queries.{booking_id, error_id, cancelled_id, cancel_id, log_id};
 ghost use Rattle.mr_tables.specs.Change.{id_before};
-ghost use Rattle.mr_tables.proofs.Putting.{InOrder};
+ghost use Rattle.mr_tables.specs.TableOrders.{InOrder};
 
 use mr_base::ServerId;
-use mr_tables::{BookingRow, CancelRow, CancelledRow, ErrorRow, LogRow};
+use mr_tables::IdRow;
 use std::marker::Model;
 
 /// The id of a row of a write: its server, and that server's count of writes, which has room for the next one.
@@ -41,66 +40,14 @@ impl RowId {
     }
 }
 
-/// A row of a table that has rows of writes.
-pub(crate) trait IdRow {
-    ghost id: { Self → Id };
-
-    fn row_id(&self) -> RowId
-        ensures { result ≡ id self.now };
-}
-
-impl IdRow for LogRow {
-    ghost id = { log_id };
-
-    fn row_id(&self) -> RowId {
-        RowId {
-            server: self.server,
-            n: u64::from(self.n),
-        }
-    }
-}
-
-impl IdRow for BookingRow {
-    ghost id = { booking_id };
-
-    fn row_id(&self) -> RowId {
-        RowId {
-            server: self.server,
-            n: u64::from(self.n),
-        }
-    }
-}
-
-impl IdRow for ErrorRow {
-    ghost id = { error_id };
-
-    fn row_id(&self) -> RowId {
-        RowId {
-            server: self.server,
-            n: u64::from(self.n),
-        }
-    }
-}
-
-impl IdRow for CancelledRow {
-    ghost id = { cancelled_id };
-
-    fn row_id(&self) -> RowId {
-        RowId {
-            server: self.server,
-            n: u64::from(self.n),
-        }
-    }
-}
-
-impl IdRow for CancelRow {
-    ghost id = { cancel_id };
-
-    fn row_id(&self) -> RowId {
-        RowId {
-            server: self.server,
-            n: u64::from(self.n),
-        }
+/// The id of the row's write.
+pub(crate) fn row_id<R: IdRow>(row: &R) -> RowId
+    ensures { result ≡ R.id row.now }
+{
+    let (server, n) = row.cells_of_id();
+    RowId {
+        server,
+        n: u64::from(n),
     }
 }
 
@@ -109,12 +56,12 @@ pub(crate) fn find<R: IdRow>(rows: &[R], id: RowId) -> Option<&R>
     requires { InOrder id_before R.id rows.now }
     ensures { MatchOption result (is_among id (map R.id rows.now) ≡ false) (λ row. Has row.now rows.now × (R.id row.now ≡ id)) }
 {
-    let at = rows.partition_point(|row| row.row_id().is_before(id));
+    let at = rows.partition_point(|row| row_id(row).is_before(id));
     if at >= rows.len() {
         return None;
     }
     let row = &rows[at];
-    if row.row_id().is_same(id) {
+    if row_id(row).is_same(id) {
         Some(row)
     } else {
         None
@@ -136,5 +83,5 @@ pub(crate) fn has<R: IdRow>(rows: &[R], id: RowId) -> bool
 pub(crate) fn are_rising<R: IdRow>(rows: &[R]) -> bool
     ensures { IsTrue result ↔ InOrder id_before R.id rows.now }
 {
-    rows.is_sorted_by(|one, next| one.row_id().is_before(next.row_id()))
+    rows.is_sorted_by(|one, next| row_id(one).is_before(row_id(next)))
 }

@@ -1,14 +1,14 @@
 ghost use Rattle.std.specs.Prelude.{◌≡◌, length, map};
 ghost use Rattle.std.specs.List.{list_all};
 ghost use Rattle.mr_tables.specs.Change.{id_before};
-ghost use Rattle.mr_tables.proofs.Putting.{InOrder};
+ghost use Rattle.mr_tables.specs.TableOrders.{InOrder};
 ghost use Rattle.mr_agree.specs.Agreeing.{is_counted, row_ids, do_ids_agree};
 ghost use Rattle.mr_audit.specs.KeyOrders.{AreByRisingId};
 ghost use Rattle.mr_audit.specs.SideBySide.{are_apart, are_tables_apart};
 
-use crate::id_rows::{IdRow, has};
+use crate::id_rows::{has, row_id};
 use crate::known::{is_counted, write_count};
-use mr_tables::Tables;
+use mr_tables::{IdRow, Tables};
 
 /// Whether each known write has one row of what became of it, and no other write has one.
 pub(crate) fn do_ids_agree(tables: &Tables) -> bool
@@ -33,7 +33,7 @@ fn are_counted<R: IdRow>(rows: &[R], tables: &Tables) -> bool
     ensures { result ≡ list_all (is_counted tables.now) (map R.id rows.now) }
 {
     for row in rows {
-        if !is_counted(tables, row.row_id()) {
+        if !is_counted(tables, row_id(row)) {
             return false;
         }
     }
@@ -57,7 +57,7 @@ fn are_apart<R: IdRow, S: IdRow>(rows: &[R], others: &[S]) -> bool
     ensures { result ≡ are_apart (map R.id rows.now) (map S.id others.now) }
 {
     for row in rows {
-        if has(others, row.row_id()) {
+        if has(others, row_id(row)) {
             return false;
         }
     }

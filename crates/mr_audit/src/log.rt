@@ -6,10 +6,10 @@ ghost use Rattle.mr_agree.specs.Agreeing.{same_mark, row_ids, is_first, is_last,
 ghost use Rattle.mr_audit.specs.KeyOrders.{AreByRisingId};
 ghost use Rattle.mr_audit.specs.SideBySide.{is_placed};
 
-use crate::id_rows::{IdRow, RowId, has};
+use crate::id_rows::{RowId, has, row_id};
 use crate::known::{is_first, is_last, write_count};
 use crate::note_rows::NoteRow;
-use mr_tables::{LogRow, Tables};
+use mr_tables::{IdRow, LogRow, Tables};
 
 /// Whether as many writes are in no row of the log as are dropped.
 pub(crate) fn is_log_whole(tables: &Tables) -> bool
@@ -54,7 +54,7 @@ fn are_placed(rows: &[LogRow], tables: &Tables) -> bool
     ensures { result ≡ list_all (λ id. is_placed id tables.now) (map log_id rows.now) }
 {
     for row in rows {
-        if !is_placed(tables, row.row_id()) {
+        if !is_placed(tables, row_id(row)) {
             return false;
         }
     }
@@ -85,7 +85,7 @@ fn are_committed_or_kept<R: IdRow>(rows: &[R], tables: &Tables) -> bool
     ensures { result ≡ list_all (λ id. is_first tables.now id || is_in_log tables.now id) (map R.id rows.now) }
 {
     for row in rows {
-        let id = row.row_id();
+        let id = row_id(row);
         if !(is_first(tables, id) || is_in_log(tables, id)) {
             return false;
         }
@@ -99,7 +99,7 @@ fn have_next(rows: &[LogRow], tables: &Tables) -> bool
     ensures { result ≡ list_all (λ id. is_last tables.now id || is_in_log tables.now (next_id id)) (map log_id rows.now) }
 {
     for row in rows {
-        if !(is_last(tables, row.row_id()) || is_in_log(tables, next_of(row))) {
+        if !(is_last(tables, row_id(row)) || is_in_log(tables, next_of(row))) {
             return false;
         }
     }
@@ -121,7 +121,7 @@ fn are_kept_or_dropped<R: NoteRow>(rows: &[R], tables: &Tables) -> bool
     ensures { result ≡ list_all (λ row. same_mark (is_in_log tables.now (R.id row)) (not (within 1 tables.now.meta.dropped (R.note row).seq))) rows.now }
 {
     for row in rows {
-        if !is_kept_or_dropped(tables, row.row_id(), row.note().seq) {
+        if !is_kept_or_dropped(tables, row_id(row), row.note().seq) {
             return false;
         }
     }

@@ -1,8 +1,8 @@
 ghost use Rattle.std.specs.Prelude.{◌≡◌, refl};
 ghost use Rattle.mr_agree.specs.Agreeing.{Note as NoteOfRow, log_note, error_note, cancel_note};
 
-use crate::id_rows::{IdRow, RowId};
-use mr_tables::{CancelRow, ErrorRow, LogRow};
+use crate::id_rows::{RowId, row_id};
+use mr_tables::{CancelRow, ErrorRow, IdRow, LogRow};
 use std::marker::Model;
 
 /// What rows of the log, of errors and of cancels have of a write: its id, its time, and its commit number or 0.
@@ -38,7 +38,7 @@ impl NoteRow for LogRow {
 
     fn note(&self) -> Note {
         Note {
-            id: self.row_id(),
+            id: row_id(self),
             time: self.time,
             seq: self.seq,
         }
@@ -52,7 +52,7 @@ impl NoteRow for ErrorRow {
 
     fn note(&self) -> Note {
         Note {
-            id: self.row_id(),
+            id: row_id(self),
             time: self.time,
             seq: self.seq,
         }
@@ -66,7 +66,7 @@ impl NoteRow for CancelRow {
 
     fn note(&self) -> Note {
         Note {
-            id: self.row_id(),
+            id: row_id(self),
             time: self.time,
             seq: self.seq,
         }

@@ -1,7 +1,7 @@
 ghost use Rattle.std.specs.Prelude.{◌≡◌, ◌≤◌, ◌↔◌, length, IsTrue};
 ghost use Rattle.std.specs.List.{list_all};
 ghost use Rattle.mr_tables.specs.Rise.{Rise};
-ghost use Rattle.mr_tables.proofs.Putting.{InOrder};
+ghost use Rattle.mr_tables.specs.TableOrders.{InOrder};
 ghost use Rattle.mr_agree.specs.Agreeing.{are_numbers_in_order};
 ghost use Rattle.mr_audit.specs.Turns.{comes_before, is_same_note, are_two_in_turn, FrontFits, BehindFits, are_fitting};
 

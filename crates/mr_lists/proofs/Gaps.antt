@@ -1,13 +1,12 @@
 -- Rows around a place: it moves, and a row is put there.
-use Rattle.std.proofs.Common.{◌≡◌, ℕ, ◌+◌, ◌<◌, Bool, true, false, cond, List, [], ◌∷◌, ◌++◌, length, reverse, refl, sym, ap, ◌∙◌, subst, ◌⊎◌, inl, inr, arith, zero, suc, add-one, slice_index_or, append_assoc}
+use Rattle.std.proofs.Common.{◌≡◌, Bool, true, false, cond, List, [], ◌∷◌, ◌++◌, length, reverse, refl, sym, ap, ◌∙◌, subst, ◌⊎◌, inl, inr, arith, append_assoc}
 use Rattle.std.proofs.lemmas.Bool.{true≢false}
 use Rattle.std.proofs.lemmas.List.{append-nil, reverse-append}
-use Rattle.std.specs.List.{AllByRecursion}
 use Rattle.mr_model.specs.Dropped.{Has}
-use Rattle.mr_model.proofs.Members.{Sorted, has_split, has_right, all_has, has_all}
+use Rattle.mr_model.proofs.Members.{Sorted, has_split, has_right, all_has}
 use Rattle.mr_tables.specs.Change.{put, put_all}
-use Rattle.mr_tables.specs.Rise.{Rise}
-use Rattle.mr_tables.proofs.Putting.{IsOrder, InOrder, OneAKey, put_all_in_order, in_order_same, put_all_has, new_has_put_all, old_has_put_all, one_a_key, Lacks}
+use Rattle.mr_tables.specs.TableOrders.{IsOrder, InOrder}
+use Rattle.mr_tables.proofs.Putting.{OneAKey, put_all_in_order, in_order_same, put_all_has, new_has_put_all, old_has_put_all, one_a_key, Lacks}
 use Rattle.mr_lists.specs.RowsAround.{around, Precede}
 
 -- ---- the place moves
@@ -86,31 +85,6 @@ put_over {R} before key o x front behind y p b c =
     go false f false g = refl
 
 -- ---- rows in another order
-
--- rows that rise from each to the next are in order
-pub rise_in_order : {R K : Type 0} (before : K → K → Bool) (key : R → K) (o : IsOrder K before) (rows : List R) → ((k : ℕ) (d : R) → k + 1 < length rows → before (key (slice_index_or rows k d)) (key (slice_index_or rows (k + 1) d)) ≡ true) → InOrder before key rows
-rise_in_order before key o [] rise = tt
-rise_in_order {R} {K} before key o (x ∷ rows) rise =
-    let later = rise_in_order before key o rows
-    (λ k d l. subst (λ j. before (key (slice_index_or rows k d)) (key (slice_index_or rows j d)) ≡ true) (sym (add-one k))
-    (subst (λ j. before (key (slice_index_or rows k d)) (key (slice_index_or (x ∷ rows) j d)) ≡ true) (add-one (suc k)) (rise (suc k) d (omega (arith, l)))))
-    in
-    (first rows (rise 0 x) later, later)
-  where
-    first : (ys : List R) → (0 + 1 < length (x ∷ ys) → before (key x) (key (slice_index_or (x ∷ ys) 1 x)) ≡ true) → InOrder before key ys → AllByRecursion (λ y. before (key x) (key y) ≡ true) ys
-    first [] b s = tt
-    first (y ∷ ys) b s =
-        let l = b (omega arith) in
-        (l, has_all (λ z. before (key x) (key z) ≡ true) ys (λ z h. o.transitive (key x) (key y) (key z) l (all_has (λ u. before (key y) (key u) ≡ true) z ys s.0 h)))
-
--- rows in order rise from each to the next
-pub in_order_rise : {R K : Type 0} (before : K → K → Bool) (key : R → K) (rows : List R) → InOrder before key rows → Rise before key rows
-in_order_rise before key [] order k d l = absurd (omega (arith, l))
-in_order_rise before key (x ∷ []) order k d l = absurd (omega (arith, l))
-in_order_rise before key (x ∷ y ∷ rows) order zero d l = order.0.0
-in_order_rise {R} before key (x ∷ y ∷ rows) order (suc k) d l =
-    subst (λ j. before (key (slice_index_or (y ∷ rows) k d)) (key (slice_index_or (x ∷ y ∷ rows) j d)) ≡ true) (sym (add-one (suc k)))
-    (subst (λ j. before (key (slice_index_or (y ∷ rows) k d)) (key (slice_index_or (y ∷ rows) j d)) ≡ true) (add-one k) (in_order_rise before key (y ∷ rows) order.1 k d (omega (arith, l))))
 
 -- the same rows make the same table in whatever order they are put, where no two of them have one key
 pub put_all_same : {R K : Type 0} (before : K → K → Bool) (key : R → K) (o : IsOrder K before) (xs ys all : List R) → ((row : R) → Has row xs → Has row ys) → ((row : R) → Has row ys → Has row xs) → InOrder before key ys → InOrder before key all → put_all before key ys all ≡ put_all before key xs all

@@ -6,7 +6,8 @@ use Rattle.mr_model.specs.Tables.{Tables}
 use Rattle.mr_model.specs.Queries.{booking_id, error_id, cancelled_id, cancel_id, log_id}
 use Rattle.mr_model.proofs.Members.{sorted_filter}
 use Rattle.mr_tables.specs.Change.{put_all, rows_without, id_before, ChangeView, changed}
-use Rattle.mr_tables.proofs.Putting.{InOrder, put_all_in_order, name_order, number_order, id_order}
+use Rattle.mr_tables.specs.TableOrders.{InOrder, name_order, number_order, id_order}
+use Rattle.mr_tables.proofs.Putting.{put_all_in_order}
 use Rattle.mr_lists.specs.RowsAround.{AreInOrder}
 
 -- rows are put, in whatever order makes the same table of one that is in order

@@ -8,7 +8,7 @@ use Rattle.mr_model.specs.Replica.{text_before}
 use Rattle.mr_model.specs.Tables.{Tables}
 use Rattle.mr_model.specs.Queries.{booking_id, error_id, cancelled_id, cancel_id, log_id}
 use Rattle.mr_tables.specs.Change.{id_before}
-use Rattle.mr_tables.proofs.Putting.{InOrder}
+use Rattle.mr_tables.specs.TableOrders.{InOrder}
 
 -- the rows in front of a place, and those behind it, the next one last
 abbrev pub around : {R : Type 0} → List R → List R → List R

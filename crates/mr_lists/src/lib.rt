@@ -7,5 +7,3 @@
 
 pub mod lists;
 pub mod puts;
-pub mod rows;
-mod table_rows;

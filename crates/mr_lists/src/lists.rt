@@ -5,8 +5,8 @@ ghost use Rattle.mr_tables.specs.Change.{changed};
 ghost use Rattle.mr_lists.specs.RowsAround.{AreInOrder};
 
 use crate::puts::{change_rows, prepare, put_rows};
-use crate::rows::{copies_of, is_in_order};
 use mr_base::ServerId;
+use mr_tables::table_row::{copies_of, is_in_order};
 use mr_tables::{Change, MetaRow, Tables};
 use std::alloc::{AllocError, Global};
 

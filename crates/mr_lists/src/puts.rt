@@ -1,11 +1,11 @@
 ghost use Rattle.std.specs.Prelude.{◌≡◌, ◌+◌, ◌<◌, ◌≤◌, [], List, true, reverse, IfOk};
 ghost use Rattle.std.specs.Vec.{vec_len, vec_capacity};
 ghost use Rattle.mr_tables.specs.Change.{put, put_all, rows_without};
-ghost use Rattle.mr_tables.proofs.Putting.{InOrder};
+ghost use Rattle.mr_tables.specs.TableOrders.{InOrder};
 ghost use Rattle.mr_lists.specs.RowsAround.{around, Precede};
 
-use crate::rows::{IdRow, TableRow, copies_of, is_in_order, take_away};
 use mr_base::WriteId;
+use mr_tables::table_row::{IdRow, TableRow, copies_of, is_in_order, take_away};
 use std::alloc::{AllocError, Global};
 use std::cmp::Ordering;
 

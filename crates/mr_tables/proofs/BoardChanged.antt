@@ -22,7 +22,7 @@ use Rattle.mr_replay.proofs.Hiding.{same_rows}
 use Rattle.mr_tables.specs.Boards.{booking_entry, error_entry, cancelled_entry, cancel_entry, is_void, put_entries, board_of}
 use Rattle.mr_tables.specs.BoardChanges.{row_of, HaveOneRowEach, cancel_told, row_told, with_told, told_anew}
 use Rattle.mr_tables.specs.Change.{ChangeView, changed, put, put_all, rows_without, id_before}
-use Rattle.mr_tables.proofs.Putting.{InOrder, id_order}
+use Rattle.mr_tables.specs.TableOrders.{InOrder, id_order}
 
 or_none : (o : Option Row) → option_or o None ≡ o
 or_none None = refl

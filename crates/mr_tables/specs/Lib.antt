@@ -10,4 +10,5 @@ pub mod Choices
 pub mod Boards
 pub mod BoardChanges
 pub mod Rise
+pub mod TableOrders
 pub mod TableLaws

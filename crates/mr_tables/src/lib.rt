@@ -15,6 +15,8 @@ pub mod reading;
 pub mod rooms;
 mod rows;
 pub mod summary;
+pub mod table_row;
+mod table_rows;
 mod tables;
 pub mod vector;
 pub mod written;
@@ -24,6 +26,8 @@ pub use change::Change;
 pub use log_rows::{ActionCells, LogRow, MeetingCells};
 pub use place_rows::PlaceRow;
 pub use rows::{BookingRow, ErrorRow, MetaRow, VectorRow};
+pub use table_row::{IdRow, TableRow};
+pub use table_rows::is_id_before;
 pub use tables::Tables;
 
 /// The rows of a replica's tables, and no others, tell the board of its writes: what `board_with` makes of them holds, room by

@@ -2,7 +2,7 @@ use Rattle.std.proofs.Common.{◌∙◌, ◌↔◌, ap, subst, List, IsTrue}
 use Rattle.mr_model.specs.Tables.{Tables, LogRow, BookingRow, ErrorRow, CancelledRow, CancelRow}
 use Rattle.mr_model.specs.Queries.{booking_id, error_id, cancelled_id, cancel_id, log_id}
 use Rattle.mr_tables.specs.Change.{id_before}
-use Rattle.mr_tables.proofs.Putting.{InOrder}
+use Rattle.mr_tables.specs.TableOrders.{InOrder}
 use Rattle.mr_tables.proofs.Rising.{both}
 use Rattle.mr_audit.proofs.agreeing.are_in_key_order.Goals as goal
 

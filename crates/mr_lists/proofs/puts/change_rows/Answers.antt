@@ -1,7 +1,7 @@
 use Rattle.std.proofs.Common.{◌≡◌, true, not, sym, subst}
 use Rattle.mr_model.specs.Replica.{is_among}
 use Rattle.mr_model.proofs.Members.{sorted_filter}
-use Rattle.mr_tables.proofs.Putting.{InOrder}
+use Rattle.mr_tables.specs.TableOrders.{InOrder}
 use Rattle.mr_lists.proofs.puts.change_rows.Goals as goal
 
 pub put_rows-requires-clause-order : goal.put_rows-requires-clause-order

@@ -1,5 +1,5 @@
 use Rattle.std.proofs.Common.{◌≡◌, ◌++◌, ◌∷◌, [], sym, ap, subst, ◌∙◌}
-use Rattle.mr_tables.proofs.Putting.{InOrder}
+use Rattle.mr_tables.specs.TableOrders.{InOrder}
 use Rattle.mr_lists.specs.RowsAround.{around, Precede}
 use Rattle.mr_lists.proofs.Gaps.{precede_ordered}
 use Rattle.mr_lists.proofs.puts.go_back.Goals as goal

@@ -1,7 +1,7 @@
 use Rattle.std.proofs.Common.{ap, subst, ◌∙◌}
 use Rattle.mr_part.proofs.Sorting.{moved_has, has_moved}
 use Rattle.mr_tables.specs.Change.{put_all}
-use Rattle.mr_tables.proofs.Putting.{InOrder}
+use Rattle.mr_tables.specs.TableOrders.{InOrder}
 use Rattle.mr_lists.proofs.Gaps.{put_all_same}
 use Rattle.mr_lists.proofs.puts.ordered_copies.Goals as goal
 

@@ -1,7 +1,8 @@
 use Rattle.std.proofs.Common.{◌∷◌, [], reverse, sym, ap, subst, ◌∙◌, arith}
 use Rattle.std.proofs.lemmas.List.{reverse-append}
 use Rattle.mr_tables.specs.Change.{put_all}
-use Rattle.mr_tables.proofs.Putting.{InOrder, put_in_order}
+use Rattle.mr_tables.specs.TableOrders.{InOrder}
+use Rattle.mr_tables.proofs.Putting.{put_in_order}
 use Rattle.mr_lists.specs.RowsAround.{around}
 use Rattle.mr_lists.proofs.puts.put_rows.Goals as goal
 

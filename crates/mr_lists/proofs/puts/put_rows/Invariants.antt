@@ -1,7 +1,7 @@
 use Rattle.std.proofs.Common.{◌≡◌, ◌+◌, ◌≤◌, true, reverse}
 use Rattle.std.specs.Vec.{vec_len, vec_capacity}
 use Rattle.mr_tables.specs.Change.{put_all}
-use Rattle.mr_tables.proofs.Putting.{InOrder}
+use Rattle.mr_tables.specs.TableOrders.{InOrder}
 use Rattle.mr_lists.specs.RowsAround.{around}
 use Rattle.mr_lists.proofs.puts.put_rows.Given as goal
 

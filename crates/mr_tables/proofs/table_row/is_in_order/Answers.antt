@@ -1,8 +1,8 @@
 use Rattle.std.proofs.Common.{rules}
 use Rattle.std.proofs.lemmas.List.Sorted.{answers_always}
 use Rattle.mr_tables.proofs.Rising.{rise_from}
-use Rattle.mr_lists.proofs.Gaps.{rise_in_order, in_order_rise}
-use Rattle.mr_lists.proofs.rows.is_in_order.Goals as goal
+use Rattle.mr_tables.proofs.Rising.{rise_in_order, in_order_rise}
+use Rattle.mr_tables.proofs.table_row.is_in_order.Goals as goal
 
 pub returns : goal.returns
 returns g c =

@@ -3,7 +3,7 @@ ghost use Rattle.mr_model.specs.Texts.{Text};
 ghost use Rattle.mr_model.specs.Writes.{Id};
 ghost use Rattle.mr_model.specs.Replica.{is_among};
 ghost use Rattle.mr_tables.specs.Change.{rows_without, id_before};
-ghost use Rattle.mr_tables.proofs.Putting.{IsOrder, InOrder};
+ghost use Rattle.mr_tables.specs.TableOrders.{IsOrder, InOrder};
 ghost use Rattle.std.specs.Vec.{vec_len, vec_capacity};
 
 use mr_base::{RoomName, ServerId, WriteId};

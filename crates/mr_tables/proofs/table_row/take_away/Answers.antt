@@ -2,7 +2,7 @@ use Rattle.std.proofs.Common.{◌≡◌, refl, ap, List, [], ◌∷◌, length, 
 use Rattle.std.proofs.lemmas.Fn.{filter_same}
 use Rattle.mr_model.specs.Writes.{Id}
 use Rattle.mr_tables.specs.Change.{rows_without}
-use Rattle.mr_lists.proofs.rows.take_away.Goals as goal
+use Rattle.mr_tables.proofs.table_row.take_away.Goals as goal
 
 -- without any keys all rows stay
 without_none : {R : Type 0} (key : R → Id) (gone : List Id) (rows : List R) → length gone ≡ 0 → rows ≡ rows_without key gone rows
