@@ -21,7 +21,7 @@ use Rattle.sqlite.specs.Kind.TheVariants.{Integer}
 use Rattle.mr_model.specs.Replica.{is_among}
 use Rattle.mr_model.specs.Tables.{MetaRow}
 use Rattle.mr_model.specs.First.{WriteRow, FirstUndoRow}
-use Rattle.mr_tables.proofs.Putting.{id_order, number_order}
+use Rattle.mr_tables.specs.TableOrders.{id_order, number_order}
 use Rattle.mr_rows.specs.Meaning.{passes}
 use Rattle.mr_rows.specs.Schema.{our_schema, first_schema}
 use Rattle.mr_rows.specs.RowCells.{place_number}

@@ -10,7 +10,7 @@ use Rattle.mr_model.specs.Queries.{booking_id, error_id}
 use Rattle.mr_model.specs.First.{FirstTables}
 use Rattle.mr_tables.specs.Change.{put_all, id_before}
 use Rattle.mr_tables.specs.Rise.{Rise}
-use Rattle.mr_tables.proofs.Putting.{IsOrder, InOrder, id_order, number_order, name_order}
+use Rattle.mr_tables.specs.TableOrders.{IsOrder, InOrder, id_order, number_order, name_order}
 use Rattle.mr_rows.specs.Schema.{first_schema}
 use Rattle.mr_rows.specs.Form.{room_form, vector_form, booking_form, error_form}
 use Rattle.mr_rows.specs.Database.{IsHeld, first_meta, in_order}

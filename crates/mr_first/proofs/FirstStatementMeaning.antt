@@ -6,19 +6,15 @@ use Rattle.sqlite_tied.specs.Compute.{everything}
 use Rattle.sqlite_schema.specs.declared.command.Conflict.TheVariants.{Replace}
 use Rattle.sqlite.specs.Listing.{understood}
 use Rattle.sqlite.specs.Source.TheVariants.{Values}
-use Rattle.sqlite.specs.Command.TheVariants.{InsertOr, Delete, Select}
+use Rattle.sqlite.specs.Command.TheVariants.{InsertOr, Delete}
 use Rattle.mr_rows.specs.Schema.{first_schema}
-use Rattle.mr_rows.proofs.StatementMeaning.{MeansIn, MeansQueryIn, program_of, same, put_meta_text, put_meta_terms, all_meta_text, meta_columns, meta_names, put_room_text, put_room_terms, all_room_text, room_columns, room_names, put_vector_text, put_vector_terms, all_vector_text, vector_columns, vector_names, put_booking_text, put_booking_terms, all_booking_text, booking_columns, booking_names, put_error_text, put_error_terms, all_error_text, error_columns, error_names}
+use Rattle.mr_rows.proofs.StatementMeaning.{MeansIn, program_of, same, put_meta_text, put_meta_terms, put_room_text, put_room_terms, put_vector_text, put_vector_terms, put_booking_text, put_booking_terms, put_error_text, put_error_terms}
 
 -- ---- meta
 
 pub put_meta_is : MeansIn first_schema put_meta_text (InsertOr 0 Replace (Values put_meta_terms 8) [])
 unfolding understood everything
 put_meta_is = (refl, (refl, refl))
-
-pub all_meta_is : MeansQueryIn first_schema all_meta_text (Select (program_of 0 [] meta_columns) meta_names)
-unfolding understood everything
-all_meta_is = ((refl, (refl, refl)), refl)
 
 abbrev pub clear_meta_text : List ℕ
 clear_meta_text = codes "DELETE FROM meta"
@@ -33,19 +29,11 @@ pub put_room_is : MeansIn first_schema put_room_text (InsertOr 1 Replace (Values
 unfolding understood everything
 put_room_is = (refl, (refl, refl))
 
-pub all_room_is : MeansQueryIn first_schema all_room_text (Select (program_of 2 [] room_columns) room_names)
-unfolding understood everything
-all_room_is = ((refl, (refl, refl)), refl)
-
 -- ---- vector
 
 pub put_vector_is : MeansIn first_schema put_vector_text (InsertOr 2 Replace (Values put_vector_terms 5) [])
 unfolding understood everything
 put_vector_is = (refl, (refl, refl))
-
-pub all_vector_is : MeansQueryIn first_schema all_vector_text (Select (program_of 4 [] vector_columns) vector_names)
-unfolding understood everything
-all_vector_is = ((refl, (refl, refl)), refl)
 
 -- ---- write_log
 
@@ -61,19 +49,6 @@ put_write_is = (refl, (refl, refl))
 
 abbrev pub write_key_tests : List Term
 write_key_tests = same (col 1 1) (col 0 0) ∷ same (col 1 2) (col 0 1) ∷ []
-
-abbrev pub write_columns : List Term
-write_columns = col 1 1 ∷ col 1 2 ∷ col 1 3 ∷ col 1 4 ∷ col 1 5 ∷ col 1 6 ∷ col 1 7 ∷ col 1 8 ∷ []
-
-abbrev pub write_names : List (List ℕ)
-write_names = codes "server" ∷ codes "n" ∷ codes "tm" ∷ codes "room" ∷ codes "length" ∷ codes "choices" ∷ codes "title" ∷ codes "seq" ∷ []
-
-abbrev pub all_write_text : List ℕ
-all_write_text = codes "SELECT server, n, tm, room, length, choices, title, seq FROM write_log"
-
-pub all_write_is : MeansQueryIn first_schema all_write_text (Select (program_of 6 [] write_columns) write_names)
-unfolding understood everything
-all_write_is = ((refl, (refl, refl)), refl)
 
 abbrev pub clear_write_text : List ℕ
 clear_write_text = codes "DELETE FROM write_log"
@@ -97,19 +72,6 @@ put_undo_is = (refl, (refl, refl))
 abbrev pub undo_key_tests : List Term
 undo_key_tests = same (col 1 1) (col 0 0) ∷ same (col 1 2) (col 0 1) ∷ []
 
-abbrev pub undo_columns : List Term
-undo_columns = col 1 1 ∷ col 1 2 ∷ col 1 3 ∷ []
-
-abbrev pub undo_names : List (List ℕ)
-undo_names = codes "server" ∷ codes "n" ∷ codes "place" ∷ []
-
-abbrev pub all_undo_text : List ℕ
-all_undo_text = codes "SELECT server, n, place FROM undo"
-
-pub all_undo_is : MeansQueryIn first_schema all_undo_text (Select (program_of 8 [] undo_columns) undo_names)
-unfolding understood everything
-all_undo_is = ((refl, (refl, refl)), refl)
-
 abbrev pub clear_undo_text : List ℕ
 clear_undo_text = codes "DELETE FROM undo"
 
@@ -123,16 +85,8 @@ pub put_booking_is : MeansIn first_schema put_booking_text (InsertOr 5 Replace (
 unfolding understood everything
 put_booking_is = (refl, (refl, refl))
 
-pub all_booking_is : MeansQueryIn first_schema all_booking_text (Select (program_of 10 [] booking_columns) booking_names)
-unfolding understood everything
-all_booking_is = ((refl, (refl, refl)), refl)
-
 -- ---- errorlog
 
 pub put_error_is : MeansIn first_schema put_error_text (InsertOr 6 Replace (Values put_error_terms 10) [])
 unfolding understood everything
 put_error_is = (refl, (refl, refl))
-
-pub all_error_is : MeansQueryIn first_schema all_error_text (Select (program_of 12 [] error_columns) error_names)
-unfolding understood everything
-all_error_is = ((refl, (refl, refl)), refl)

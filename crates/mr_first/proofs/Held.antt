@@ -10,7 +10,7 @@ use Rattle.sqlite.specs.Effect.{Database, IsDatabase}
 use Rattle.mr_rows.specs.Schema.{first_schema}
 use Rattle.mr_rows.specs.Shelf.{HasShelves}
 use Rattle.mr_rows.specs.Form.{room_form, vector_form, booking_form, error_form}
-use Rattle.mr_rows.proofs.FoundLemmas.{Ruled, held, equal_numbers, equal_texts, ids_agree}
+use Rattle.mr_rows.proofs.FoundLemmas.{Ruled, held, equal_numbers, equal_texts, ruled_by_ids}
 use Rattle.mr_first.specs.Forms.{first_meta_form, write_form, undo_form}
 use Rattle.mr_first.specs.FirstDatabase.{IsFirst}
 use Rattle.mr_first.specs.FirstShown.{AreFirstRows}
@@ -55,55 +55,19 @@ vector_ruled = record {
 
 write_ruled : Ruled first_schema write_form
 unfolding first_key
-write_ruled = record {
-  listed = inr (inr (inr (inl refl)));
-  keyless = refl;
-  required = refl;
-  index = _;
-  indexed = inr (inr (inr (inl refl)));
-  guarding = refl;
-  agrees = λ r s a b same.
-      ids_agree 1 2 r s (write_form.key (write_form.row_in r)) (write_form.key (write_form.row_in s)) (ap (λ x. column x 1) a) (ap (λ x. column x 1) b) (ap (λ x. column x 2) a) (ap (λ x. column x 2) b) same;
-}
+write_ruled = ruled_by_ids write_form _ 1 2 (inr (inr (inr (inl refl)))) (inr (inr (inr (inl refl)))) refl refl refl (λ r s. refl) (λ x v. refl) (λ x v. refl)
 
 undo_ruled : Ruled first_schema undo_form
 unfolding first_key
-undo_ruled = record {
-  listed = inr (inr (inr (inr (inl refl))));
-  keyless = refl;
-  required = refl;
-  index = _;
-  indexed = inr (inr (inr (inr (inl refl))));
-  guarding = refl;
-  agrees = λ r s a b same.
-      ids_agree 1 2 r s (undo_form.key (undo_form.row_in r)) (undo_form.key (undo_form.row_in s)) (ap (λ x. column x 1) a) (ap (λ x. column x 1) b) (ap (λ x. column x 2) a) (ap (λ x. column x 2) b) same;
-}
+undo_ruled = ruled_by_ids undo_form _ 1 2 (inr (inr (inr (inr (inl refl))))) (inr (inr (inr (inr (inl refl))))) refl refl refl (λ r s. refl) (λ x v. refl) (λ x v. refl)
 
 booking_ruled : Ruled first_schema booking_form
 unfolding first_key
-booking_ruled = record {
-  listed = inr (inr (inr (inr (inr (inl refl)))));
-  keyless = refl;
-  required = refl;
-  index = _;
-  indexed = inr (inr (inr (inr (inr (inl refl)))));
-  guarding = refl;
-  agrees = λ r s a b same.
-      ids_agree 5 6 r s (booking_form.key (booking_form.row_in r)) (booking_form.key (booking_form.row_in s)) (ap (λ x. column x 5) a) (ap (λ x. column x 5) b) (ap (λ x. column x 6) a) (ap (λ x. column x 6) b) same;
-}
+booking_ruled = ruled_by_ids booking_form _ 5 6 (inr (inr (inr (inr (inr (inl refl)))))) (inr (inr (inr (inr (inr (inl refl)))))) refl refl refl (λ r s. refl) (λ x v. refl) (λ x v. refl)
 
 error_ruled : Ruled first_schema error_form
 unfolding first_key
-error_ruled = record {
-  listed = inr (inr (inr (inr (inr (inr (inl refl))))));
-  keyless = refl;
-  required = refl;
-  index = _;
-  indexed = inr (inr (inr (inr (inr (inr (inl refl))))));
-  guarding = refl;
-  agrees = λ r s a b same.
-      ids_agree 5 6 r s (error_form.key (error_form.row_in r)) (error_form.key (error_form.row_in s)) (ap (λ x. column x 5) a) (ap (λ x. column x 5) b) (ap (λ x. column x 6) a) (ap (λ x. column x 6) b) same;
-}
+error_ruled = ruled_by_ids error_form _ 5 6 (inr (inr (inr (inr (inr (inr (inl refl))))))) (inr (inr (inr (inr (inr (inr (inl refl))))))) refl refl refl (λ r s. refl) (λ x v. refl) (λ x v. refl)
 
 -- ---- all of them
 

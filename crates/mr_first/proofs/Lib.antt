@@ -2,11 +2,9 @@ pub mod FirstStatementMeaning
 pub mod Facts
 pub mod FirstSteps
 pub mod Statements
-pub mod Selects
 pub mod ClearLemmas
 pub mod MakeLemmas
 pub mod ReadLemmas
-pub mod FirstCauses
 pub mod SureFirstTexts
 pub mod PairLemmas
 pub mod Held

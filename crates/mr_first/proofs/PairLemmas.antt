@@ -2,17 +2,20 @@
 use Rattle.std.proofs.Common.{◌≡◌, ℕ, ◌<◌, zero, suc, List, [], ◌∷◌, ◌++◌, map, length, take, get_or, true, Bool, ◌&&◌, ◌==◌, inl, inr, Some, None, Option, refl, sym, ap, subst, ◌∙◌, arith, eqb-true, eq-eqb}
 use Rattle.std.specs.Prelude.{option_map}
 use Rattle.std.specs.List.{cons_option, AllByRecursion}
-use Rattle.std.proofs.lemmas.Bool.{and_from, and_parts}
+use Rattle.std.proofs.lemmas.List.{get_or-map, map-append}
+use Rattle.std.proofs.Math.Seq.{take-suc}
+use Rattle.sqlite_keyed.proofs.ListLemmas.{ascending_weaker}
 use Rattle.sqlite_trees.specs.Tree.{Trees}
-use Rattle.mr_model.specs.Writes.{Id, Write}
+use Rattle.mr_model.specs.Writes.{Id, Write, same_id}
 use Rattle.mr_model.specs.Replica.{Replica}
 use Rattle.mr_model.specs.Tables.{MetaRow, LogRow, kept}
 use Rattle.mr_model.specs.First.{WriteRow, FirstUndoRow, FirstTables, write_row, undo_row, StandsFirst, undo_of, moved_row, moved_log, moved}
 use Rattle.mr_model.specs.Dropped.{Has}
-use Rattle.mr_model.proofs.Members.{find_one, all_has, has_all}
+use Rattle.mr_model.proofs.Members.{find_one, same_id-true, same_id_from}
 use Rattle.mr_model.specs.Queries.{log_id}
 use Rattle.mr_tables.specs.Change.{put_all, id_before}
-use Rattle.mr_tables.proofs.Putting.{IsOrder, InOrder, OneAKey, one_a_key, id_order, in_order_same}
+use Rattle.mr_tables.specs.TableOrders.{IsOrder, InOrder, id_order}
+use Rattle.mr_tables.proofs.Putting.{OneAKey, one_a_key, in_order_same}
 use Rattle.mr_rows.proofs.SortedByKey.{Apart, ordered_in_order, ordered_has, has_ordered}
 use Rattle.mr_first.specs.FirstCells.{write_row_from, undo_in}
 use Rattle.mr_first.specs.Forms.{write_id, undo_id}
@@ -28,33 +31,16 @@ joined [] us = []
 joined (w ∷ ws) [] = []
 joined (w ∷ ws) (u ∷ us) = moved_row w u ∷ joined ws us
 
--- a row's partner has its id
-partner : (w : WriteRow) (u : FirstUndoRow) → write_id w ≡ undo_id u → (u.server == w.server && u.n == w.n) ≡ true
-partner w u same = and_from (u.server == w.server) (u.n == w.n) (eq-eqb u.server w.server (sym (ap (λ (i : Id). i.server) same))) (eq-eqb u.n w.n (sym (ap (λ (i : Id). i.n) same)))
-
-partners_id : (w : WriteRow) (u : FirstUndoRow) → (u.server == w.server && u.n == w.n) ≡ true → write_id w ≡ undo_id u
-partners_id w u h =
-    let both = and_parts (u.server == w.server) (u.n == w.n) h in
-    let s : u.server ≡ w.server = eqb-true u.server w.server both.0 in
-    let n : u.n ≡ w.n = eqb-true u.n w.n both.1 in
-    λ i. record { server = sym s i; n = sym n i }
-
 -- rows that are paired, among all of the other log
 joined_is : (ws : List WriteRow) (us all : List FirstUndoRow) → OneAKey undo_id all → ((u : FirstUndoRow) → Has u us → Has u all) → map write_id ws ≡ map undo_id us → joined ws us ≡ moved_log ws all
 joined_is [] us all one inside same = refl
 joined_is (w ∷ ws) [] all one inside same = absurd (cc)
 joined_is (w ∷ ws) (u ∷ us) all one inside same =
-    let here : write_id w ≡ undo_id u = head_same _ _ _ _ same in
+    let here : write_id w ≡ undo_id u = cc in
     let found : undo_of w all ≡ Some u =
-    find_one (λ v. v.server == w.server && v.n == w.n) u all (inside u (inl refl)) (partner w u here) (λ v h e. one v u h (inside u (inl refl)) (sym (partners_id w v e) ∙ here)) in
-    let more = joined_is ws us all one (λ v h. inside v (inr h)) (tail_same _ _ _ _ same) in
+    find_one (λ v. same_id (undo_id v) (write_id w)) u all (inside u (inl refl)) (same_id_from _ _ (sym here)) (λ v h e. one v u h (inside u (inl refl)) (same_id-true (undo_id v) _ e ∙ here)) in
+    let more = joined_is ws us all one (λ v h. inside v (inr h)) (cc) in
     λ i. cons_option (option_map (moved_row w) (sym found i)) (more i)
-  where
-    head_same : (x y : Id) (xs ys : List Id) → x ∷ xs ≡ y ∷ ys → x ≡ y
-    head_same x y xs ys e = cc
-
-    tail_same : (x y : Id) (xs ys : List Id) → x ∷ xs ≡ y ∷ ys → xs ≡ ys
-    tail_same x y xs ys e = cc
 
 undo_apart : (trees : Trees) → OneAKey undo_id (first_in trees).undo
 unfolding first_in
@@ -67,26 +53,18 @@ paired_is ws us trees paired is = joined_is ws us us (subst (λ rows. OneAKey un
 
 -- what is at a place of both, of rows of one write each
 pub paired_at : (ws : List WriteRow) (us : List FirstUndoRow) (i : ℕ) (w : WriteRow) (u : FirstUndoRow) → i < length ws → length ws ≡ length us → w ≡ get_or ws i w → u ≡ get_or us i u → ArePaired ws us → write_id w ≡ undo_id u
-paired_at [] us i w u low many at_w at_u same = absurd (omega (arith, low))
-paired_at (x ∷ ws) [] i w u low many at_w at_u same = absurd (cc)
-paired_at (x ∷ ws) (y ∷ us) zero w u low many at_w at_u same = let head : write_id x ≡ undo_id y = cc in ap write_id at_w ∙ head ∙ ap undo_id (sym at_u)
-paired_at (x ∷ ws) (y ∷ us) (suc i) w u low many at_w at_u same =
-    let rest : map write_id ws ≡ map undo_id us = cc in
-    let lengths : length ws ≡ length us = omega (arith, many) in
-    paired_at ws us i w u (omega (arith, low)) lengths at_w at_u rest
+paired_at ws us i w u low many at_w at_u same =
+    ap write_id at_w ∙ sym (get_or-map write_id ws i w (write_id w) low) ∙ ap (λ ids. get_or ids i (write_id w)) same
+    ∙ get_or-map undo_id us i u (write_id w) (omega (arith, low, many)) ∙ ap undo_id (sym at_u)
+
+-- the ids of one row more
+taken : {R : Type 0} (key : R → Id) (rows : List R) (i : ℕ) (row : R) → i < length rows → row ≡ get_or rows i row → map key (take (suc i) rows) ≡ map key (take i rows) ++ key row ∷ []
+taken key rows i row low at = ap (map key) (take-suc rows i row low) ∙ map-append key (take i rows) _ ∙ ap (λ r. map key (take i rows) ++ key r ∷ []) (sym at)
 
 -- one pair more
 pub more_paired : (ws : List WriteRow) (us : List FirstUndoRow) (i : ℕ) (w : WriteRow) (u : FirstUndoRow) → i < length ws → length ws ≡ length us → w ≡ get_or ws i w → u ≡ get_or us i u → write_id w ≡ undo_id u
     → ArePaired (take i ws) (take i us) → ArePaired (take (suc i) ws) (take (suc i) us)
-more_paired [] us i w u low many at_w at_u here same = absurd (omega (arith, low))
-more_paired (x ∷ ws) [] i w u low many at_w at_u here same = absurd (cc)
-more_paired (x ∷ ws) (y ∷ us) zero w u low many at_w at_u here same = ap (λ id. id ∷ []) (ap write_id (sym at_w) ∙ here ∙ ap undo_id at_u)
-more_paired (x ∷ ws) (y ∷ us) (suc i) w u low many at_w at_u here same =
-    let head : write_id x ≡ undo_id y = cc in
-    let rest : map write_id (take i ws) ≡ map undo_id (take i us) = cc in
-    let lengths : length ws ≡ length us = omega (arith, many) in
-    let more = more_paired ws us i w u (omega (arith, low)) lengths at_w at_u here rest in
-    λ j. head j ∷ more j
+more_paired ws us i w u low many at_w at_u here same = taken write_id ws i w low at_w ∙ (λ j. same j ++ here j ∷ []) ∙ sym (taken undo_id us i u (omega (arith, low, many)) at_u)
 
 pub more_joined : (ws : List WriteRow) (us : List FirstUndoRow) (i : ℕ) (w : WriteRow) (u : FirstUndoRow) → i < length ws → length ws ≡ length us → w ≡ get_or ws i w → u ≡ get_or us i u
     → joined (take (suc i) ws) (take (suc i) us) ≡ joined (take i ws) (take i us) ++ moved_row w u ∷ []
@@ -109,29 +87,24 @@ replicas_paired t r stands = subst (λ (x : FirstTables). ArePaired x.write_log 
 
 pub put_into_empty : {R K : Type 0} (before : K → K → Bool) (key : R → K) → IsOrder K before → (rows : List R) → InOrder before key rows → put_all before key rows [] ≡ rows
 put_into_empty {R} {K} before key o rows up =
-    in_order_same before key o (put_all before key rows []) rows (ordered_in_order before key o rows) up (λ row h. ordered_has before key o rows row h) (λ row h. has_ordered before key o rows (apart rows up) row h)
+    in_order_same before key o (put_all before key rows []) rows (ordered_in_order before key o rows) up (λ row h. ordered_has before key o rows row h) (λ row h. has_ordered before key o rows apart row h)
   where
-    apart : (xs : List R) → InOrder before key xs → Apart before key xs
-    apart [] s = tt
-    apart (x ∷ xs) s = (has_all (λ y. key x ≡ key y → ⊥) xs (λ y h same. o.irreflexive (key x) (subst (λ k. before (key x) k ≡ true) (sym same) (all_has (λ y. before (key x) (key y) ≡ true) y xs s.0 h))), apart xs s.1)
+    apart : Apart before key rows
+    apart = ascending_weaker (λ x y. before (key x) (key y) ≡ true) (λ x y. key x ≡ key y → ⊥) (λ x y less same. o.irreflexive (key x) (subst (λ k. before (key x) k ≡ true) (sym same) less)) rows up
 
 -- ---- the log is in order
 
 log_in_order : (ws : List WriteRow) (us : List FirstUndoRow) → InOrder id_before write_id ws → InOrder id_before log_id (moved_log ws us)
 log_in_order [] us s = tt
-log_in_order (w ∷ ws) us s = go (undo_of w us) (log_in_order ws us s.1)
+log_in_order (w ∷ ws) us s =
+    elim (undo_of w us) as (λ o. InOrder id_before log_id (cons_option (option_map (moved_row w) o) (moved_log ws us)))
+    [ None ↦ log_in_order ws us s.1 | Some u ↦ (above ws s.0, log_in_order ws us s.1) ]
   where
     above : (xs : List WriteRow) → AllByRecursion (λ x. id_before (write_id w) (write_id x) ≡ true) xs → AllByRecursion (λ y. id_before (write_id w) (log_id y) ≡ true) (moved_log xs us)
     above [] h = tt
-    above (x ∷ xs) h = pick (undo_of x us) (above xs h.1)
-      where
-        pick : (o : Option FirstUndoRow) → AllByRecursion (λ y. id_before (write_id w) (log_id y) ≡ true) (moved_log xs us) → AllByRecursion (λ y. id_before (write_id w) (log_id y) ≡ true) (cons_option (option_map (moved_row x) o) (moved_log xs us))
-        pick None more = more
-        pick (Some u) more = (h.0, more)
-
-    go : (o : Option FirstUndoRow) → InOrder id_before log_id (moved_log ws us) → InOrder id_before log_id (cons_option (option_map (moved_row w) o) (moved_log ws us))
-    go None more = more
-    go (Some u) more = (above ws s.0, more)
+    above (x ∷ xs) h =
+        elim (undo_of x us) as (λ o. AllByRecursion (λ y. id_before (write_id w) (log_id y) ≡ true) (cons_option (option_map (moved_row x) o) (moved_log xs us)))
+        [ None ↦ above xs h.1 | Some u ↦ (h.0, above xs h.1) ]
 
 writes_in_order : (trees : Trees) → InOrder id_before write_id (first_in trees).write_log
 unfolding first_in

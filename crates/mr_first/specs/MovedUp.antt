@@ -28,14 +28,6 @@ MovedTablesOfReplicasAgree = (t : FirstTables) (r : Replica) → StandsFirst t r
 
 -- ---- rows that moving up doesn't refuse
 
--- the rows of both logs can be read, and each has a partner in the other
-abbrev pub HavePartners : Trees → Type 0
-HavePartners trees = (AreStoredAs write_form trees × AreStoredAs undo_form trees) × ArePaired (first_in trees).write_log (first_in trees).undo
-
--- `meta` has one row, and it can be read
-abbrev pub HasOneMeta : Trees → Type 0
-HasOneMeta trees = AreStoredAs first_meta_form trees × (length (trees 0) ≡ 1)
-
 -- all rows can be read, there is one of `meta`, all rows of both logs have partners, and they agree with each other once they are moved
 pub record CanMoveUp (trees : Trees) : Type 0 where
   pub rows : AreFirstRows trees

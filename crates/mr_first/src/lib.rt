@@ -9,16 +9,12 @@ pub mod creating;
 mod first_rows;
 pub mod found;
 mod logs;
-mod meta_row;
 pub mod moved_tables;
 pub mod moving;
 pub mod pairs;
 pub mod puts;
-mod queries;
 mod rows;
-mod shared;
 mod tables;
-mod whole;
 
 pub use rows::{FirstUndoRow, WriteRow};
 pub use tables::First;

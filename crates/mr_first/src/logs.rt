@@ -2,59 +2,87 @@ ghost use Rattle.std.specs.Prelude.{◌≡◌, ◌≢◌, ◌∷◌, false, IfOk
 ghost use Rattle.sqlite_value.specs.declared.value.Value.TheVariants.{Null};
 ghost use Rattle.sqlite_value.specs.Order.{column, bytes};
 ghost use Rattle.mr_model.specs.Writes.{Id};
-ghost use Rattle.mr_base.specs.Ids.{id_cmp};
+ghost use Rattle.mr_tables.specs.Change.{id_before};
+ghost use Rattle.mr_tables.specs.TableOrders.{id_order};
+ghost use Rattle.mr_rows.specs.Schema.{first_schema};
 ghost use Rattle.mr_rows.specs.RowCells.{nat_of};
 ghost use Rattle.mr_first.specs.FirstCells.{write_row_from, undo_in, are_first_meeting_cells, are_write_cells, are_undo_cells};
 ghost use Rattle.mr_first.specs.Forms.{write_id, undo_id, write_form, undo_form};
 ghost use Rattle.mr_first.specs.FirstParts.{put_writes, put_undo};
 
 use crate::cells::read_first_place;
-use crate::first_rows::{FirstRow, is_id_before};
-use crate::queries::ask_first;
+use crate::first_rows::FirstRow;
 use crate::rows::{FirstUndoRow, WriteRow};
 use mr_base::MINUTES_OF_A_DAY;
-use mr_rows::cells::{read_commit, read_id, read_name, read_number, read_time, read_title};
-use mr_rows::choices::read_choices;
+use mr_rows::StoredRow;
+use mr_rows::cells::{
+    has_commit, has_id, has_name, has_time, has_title, passes, read_commit, read_id, read_name,
+    read_number, read_time, read_title,
+};
+use mr_rows::choices::{has_choices, read_choices};
 use mr_rows::numbers::{Number, PlaceNumber};
-use mr_rows::{Idle, compare_ids};
-use mr_tables::MeetingCells;
+use mr_tables::{MeetingCells, TableRow, is_id_before};
 use sqlite::{Alter, Error, ErrorCode, Row, Transaction, params};
-use std::alloc::Global;
-use std::cmp::Ordering;
+use std::alloc::{AllocError, Global};
 
 // The columns are counted from 0, in the order of the table.
 
-impl FirstRow for WriteRow {
+impl TableRow for WriteRow {
+    ghost Key = { Id };
+
+    ghost key = { write_id };
+
+    ghost before = { id_before };
+
+    ghost order = { id_order };
+
+    fn is_before(&self, other: &WriteRow) -> bool {
+        is_id_before((self.server, self.n), (other.server, other.n))
+    }
+
+    fn copied(&self, alloc: Global) -> Result<WriteRow, AllocError> {
+        match (self.room.copy(alloc), self.meeting.copy(alloc)) {
+            (Ok(room), Ok(meeting)) => Ok(WriteRow {
+                server: self.server,
+                n: self.n,
+                time: self.time,
+                room,
+                meeting,
+                seq: self.seq,
+            }),
+            _ => Err(AllocError),
+        }
+    }
+}
+
+impl StoredRow for WriteRow {
     ghost Key = { Id };
 
     ghost form = { write_form };
 
-    ghost order = { λ a b. id_cmp (write_id a) (write_id b) };
+    ghost stands_in = { λ under. under ≡ first_schema };
 
-    ghost rows_of = { λ t. t.write_log };
-
-    ghost put_in = { put_writes };
-
-    fn is_before(a: &WriteRow, b: &WriteRow) -> bool {
-        is_id_before((a.server, a.n), (b.server, b.n))
+    fn all() -> &'static str {
+        "SELECT server, n, tm, room, length, choices, title, seq FROM write_log"
     }
-
-    fn compare(a: &WriteRow, b: &WriteRow) -> Ordering {
-        compare_ids((a.server, a.n), (b.server, b.n))
-    }
-
-    fn keeps_order() {}
 
     fn read(alloc: Global, row: &Row) -> Result<WriteRow, Error> {
         read_write(alloc, row)
     }
 
-    fn select_all<S: Alter>(conn: &mut Idle<S>) -> Result<Vec<Row>, Error> {
-        ask_first(
-            conn,
-            "SELECT server, n, tm, room, length, choices, title, seq FROM write_log",
-        )
+    fn test(row: &Row) -> Result<(), Error> {
+        passes(has_write(row))
     }
+
+    ghost shown_as = { λ r. refl };
+
+    ghost order = { id_order };
+
+    ghost ordered = { λ a b. refl };
+}
+
+impl FirstRow for WriteRow {
+    ghost put_in = { put_writes };
 
     fn put<S: Alter>(&self, tx: &mut Transaction<'_, S>, _alloc: Global) -> Result<usize, Error> {
         let time = Number::new(self.time, 2)?;
@@ -74,10 +102,6 @@ impl FirstRow for WriteRow {
             ],
         )
     }
-
-    ghost stored_is = { λ r is. is };
-
-    ghost shown_is = { λ r is. is };
 
     ghost put_none = { λ t. refl };
 
@@ -121,34 +145,52 @@ fn read_meeting(alloc: Global, row: &Row) -> Result<MeetingCells, Error>
     })
 }
 
-impl FirstRow for FirstUndoRow {
+impl TableRow for FirstUndoRow {
+    ghost Key = { Id };
+
+    ghost key = { undo_id };
+
+    ghost before = { id_before };
+
+    ghost order = { id_order };
+
+    fn is_before(&self, other: &FirstUndoRow) -> bool {
+        is_id_before((self.server, self.n), (other.server, other.n))
+    }
+
+    fn copied(&self, _alloc: Global) -> Result<FirstUndoRow, AllocError> {
+        Ok(*self)
+    }
+}
+
+impl StoredRow for FirstUndoRow {
     ghost Key = { Id };
 
     ghost form = { undo_form };
 
-    ghost order = { λ a b. id_cmp (undo_id a) (undo_id b) };
+    ghost stands_in = { λ under. under ≡ first_schema };
 
-    ghost rows_of = { λ t. t.undo };
-
-    ghost put_in = { put_undo };
-
-    fn is_before(a: &FirstUndoRow, b: &FirstUndoRow) -> bool {
-        is_id_before((a.server, a.n), (b.server, b.n))
+    fn all() -> &'static str {
+        "SELECT server, n, place FROM undo"
     }
-
-    fn compare(a: &FirstUndoRow, b: &FirstUndoRow) -> Ordering {
-        compare_ids((a.server, a.n), (b.server, b.n))
-    }
-
-    fn keeps_order() {}
 
     fn read(_alloc: Global, row: &Row) -> Result<FirstUndoRow, Error> {
         read_undo(row)
     }
 
-    fn select_all<S: Alter>(conn: &mut Idle<S>) -> Result<Vec<Row>, Error> {
-        ask_first(conn, "SELECT server, n, place FROM undo")
+    fn test(row: &Row) -> Result<(), Error> {
+        passes(has_undo(row))
     }
+
+    ghost shown_as = { λ r. refl };
+
+    ghost order = { id_order };
+
+    ghost ordered = { λ a b. refl };
+}
+
+impl FirstRow for FirstUndoRow {
+    ghost put_in = { put_undo };
 
     fn put<S: Alter>(&self, tx: &mut Transaction<'_, S>, _alloc: Global) -> Result<usize, Error> {
         tx.execute(
@@ -160,10 +202,6 @@ impl FirstRow for FirstUndoRow {
             ],
         )
     }
-
-    ghost stored_is = { λ r is. is };
-
-    ghost shown_is = { λ r is. is };
 
     ghost put_none = { λ t. refl };
 
@@ -182,4 +220,29 @@ fn read_undo(row: &Row) -> Result<FirstUndoRow, Error>
         n: id.n,
         place,
     })
+}
+
+fn has_write(row: &Row) -> bool
+    ensures { result ≡ are_write_cells row.now }
+{
+    has_id(row, 0)
+        && has_time(row, 2)
+        && has_name(row, 3)
+        && has_first_meeting(row)
+        && has_commit(row, 7)
+}
+
+fn has_first_meeting(row: &Row) -> bool
+    ensures { result ≡ are_first_meeting_cells row.now }
+{
+    match read_number(row, 4, 1, u64::from(MINUTES_OF_A_DAY)) {
+        Ok(length) => has_choices(row, 5, length as u32) && has_title(row, 6),
+        Err(_) => false,
+    }
+}
+
+fn has_undo(row: &Row) -> bool
+    ensures { result ≡ are_undo_cells row.now }
+{
+    has_id(row, 0) && read_first_place(row, 2).is_ok()
 }

@@ -11,7 +11,7 @@ use crate::rows::{FirstUndoRow, WriteRow};
 use crate::tables::First;
 use mr_base::RoomName;
 use mr_rows::numbers::Number;
-use mr_tables::{BookingRow, ErrorRow, MetaRow, VectorRow};
+use mr_tables::{BookingRow, ErrorRow, MetaRow, TableRow, VectorRow};
 use sqlite::{Alter, Error, Transaction, params};
 use std::alloc::Global;
 
@@ -176,10 +176,10 @@ pub fn put_tables<S: Alter>(
 
 // ---- keys
 
-fn are_rising<R: FirstRow>(rows: &[R]) -> bool
-    ensures { IsTrue result ↔ Rise R.form.before R.form.key rows.now }
+fn are_rising<R: TableRow>(rows: &[R]) -> bool
+    ensures { IsTrue result ↔ Rise R.before R.key rows.now }
 {
-    rows.is_sorted_by(|one, next| R::is_before(one, next))
+    rows.is_sorted_by(|one, next| one.is_before(next))
 }
 
 /// Whether the key of each row is before that of the next in its table, so that none is there twice.

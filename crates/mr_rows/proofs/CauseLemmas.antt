@@ -1,5 +1,5 @@
 -- Why a query fails, and what reads one after the other makes of it.
-use Rattle.std.proofs.Common.{◌≡◌, ◌≢◌, inl, inr, ℕ, ◌≤◌, List, [], ◌∷◌, ◌++◌, length, append-nil, map, Option, Some, Result, Ok, Err, Vec, Global, true, false, IfErr, OnErr, IsSome, IsTrue, refl, sym, ap, subst, ◌∙◌, arith}
+use Rattle.std.proofs.Common.{◌≡◌, ◌≢◌, inl, inr, ℕ, zero, suc, ◌+◌, ◌≤◌, List, [], ◌∷◌, ◌++◌, length, append-nil, map, filter, Bool, Option, Some, Result, Ok, Err, Vec, Global, true, false, IfErr, OnErr, IsSome, IsTrue, refl, sym, ap, subst, ◌∙◌, arith}
 use Rattle.std.specs.Prelude.{⊤}
 use Rattle.std.specs.List.{All, AllByRecursion}
 use Rattle.std.specs.List.Sorted.{IsPermutation}
@@ -8,7 +8,7 @@ use Rattle.std.proofs.lemmas.List.Elements.{All-from_recursion}
 use Rattle.std.proofs.lemmas.List.Sorted.{IsPermutation-sym, length_permutation}
 use Rattle.sqlite_disk.specs.Disk.{MoreFaults}
 use Rattle.sqlite_schema.specs.declared.schema.Schema.{Schema}
-use Rattle.sqlite_value.specs.Order.{Row}
+use Rattle.sqlite_value.specs.Order.{Row, column}
 use Rattle.sqlite_trees.specs.Tree.{Trees}
 use Rattle.sqlite_trees.specs.declared.error.StoreError.{StoreError}
 use Rattle.sqlite_trees.specs.declared.error.StoreError.TheVariants.{OutOfMemory, Io, Corrupt, Full, Broken, Unstorable}
@@ -21,16 +21,22 @@ use Rattle.sqlite.specs.Effect.{Database}
 use Rattle.sqlite.specs.Given.{IsRefused, FailsToAdvance}
 use Rattle.sqlite.specs.Held.{Held, state}
 use Rattle.sqlite.specs.Listing.{understood, reads_listing, IsSourceOf}
-use Rattle.sqlite.specs.State.{State, HasCleanDisk, HasCause, IsUnchanged, IsNoStatement, IsNotRun, FailsToQuery, Survives, Begins}
-use Rattle.sqlite.proofs.StateLemmas.{survives_then}
-use Rattle.sqlite.proofs.Callers.{IsPlain, given_begin}
+use Rattle.sqlite.specs.State.{State, HasCleanDisk, HasCause, IsUnchanged, IsNoStatement, IsNotRun, FailsToQuery, Survives, Shown, Begins}
+use Rattle.sqlite.specs.Command.TheVariants.{Select}
+use Rattle.sqlite.proofs.Callers.{IsPlain, given_begin, begins_as, reads_as}
+use Rattle.sqlite_sql.specs.Term.{eval_all}
+use Rattle.sqlite_value.specs.declared.value.Value.TheVariants.{Null}
+use Rattle.mr_rows.specs.Meaning.{passes, columns_at}
+use Rattle.mr_rows.specs.Reads.{IsPlacedIn, ReadsWhere, LooksIn, first_of}
 use Rattle.mr_rows.specs.Schema.{our_schema}
-use Rattle.mr_rows.specs.Reads.{IsPlacedIn, IsPlaced, ReadsWhere, Looks, first_of}
-use Rattle.mr_rows.specs.Causes.{IsOfStore, FailsByStoreWhere, FailsByStoreIn, FailsByStore, IsSureUnder, IsSureIn, IsSure, ShowsOnly, ShowsRows}
+use Rattle.mr_rows.specs.Asked.{AreChosen}
+use Rattle.mr_rows.specs.Causes.{IsOfStore, FailsByStoreWhere, FailsByStoreIn, FailsByStore, IsSureUnder, IsSureIn, ShowsOnly, AsksAll}
 use Rattle.mr_rows.specs.CellLimits.{are_meta_cells}
-use Rattle.mr_rows.specs.Form.{Form, meta_form}
+use Rattle.mr_rows.specs.Form.{Form}
 use Rattle.mr_rows.specs.Shown.{columns_from, IsShownAs, IsStoredAs, AreStoredAs}
-use Rattle.mr_rows.proofs.FormLemmas.{has_moved}
+use Rattle.mr_rows.proofs.StatementMeaning.{program_of}
+use Rattle.mr_rows.proofs.RowLemmas.{filter_all_true}
+use Rattle.mr_rows.proofs.FormLemmas.{has_moved, shows}
 use Rattle.mr_rows.proofs.QueryLemmas.{clean_before}
 use Rattle.mr_rows.proofs.StreamedRows.{SoFar, OneOn}
 
@@ -60,9 +66,6 @@ sure_fails_in under sql params old new e here plain sure (inr (c, it, shows)) =
     let told = subst (IsSureUnder under sql params) known sure.1 in
     inr (told.2 old.step_limit refuses.0 e (ap (λ (d : Database). d.schema) db ∙ here.schema) refuses.2)
 
-pub sure_fails : (sql : List ℕ) (params : Row) (old new : State) (e : Error) → IsPlaced old → IsPlain (understood our_schema sql) → IsSure sql params → FailsToQuery sql params old new e → IsOfStore old new e
-sure_fails sql params old new e = sure_fails_in our_schema sql params old new e
-
 more_faults : (a b c : ℕ) → a ≤ b → MoreFaults b c → MoreFaults a c
 more_faults a b c less more = omega (arith, less, more)
 
@@ -79,7 +82,7 @@ since_first a b c P e s now (inl (cause, is, had)) = inl (cause, is, caused caus
     caused Broken shut = absurd (let never = rw shut at now in cc)
     caused Unstorable none = none
 
-still_placed : (a b : State) → IsPlaced a → IsUnchanged a b → IsPlaced b
+still_placed : {under : Schema} (a b : State) → IsPlacedIn under a → IsUnchanged a b → IsPlacedIn under b
 still_placed a b here same = record { schema = ap (λ (d : Database). d.schema) same.0.now_is ∙ here.schema; settled = same.0.now_is ∙ here.settled ∙ sym same.0.committed_is }
 
 -- what begins an answer of an unchanged database began it before
@@ -98,23 +101,23 @@ last_has : (P : Row → Type 0) (rows : List Row) (row : Row) → AllByRecursion
 last_has P [] row all = all.0
 last_has P (r ∷ rows) row all = last_has P rows row all.1
 
-module _ {S : Type 0} (g : store.Ghosts S) (sql : List ℕ) (params : Row) (plain : IsPlain (understood our_schema sql)) (sure : IsSure sql params) where
-  pub not_asked : {X : Type 0} (old new : Held S) (r : Result X Error) → OnErr r (IsRefused g sql params old r new) → FailsByStore (λ _. ⊤) (state g old) (state g new) r
+module _ {S : Type 0} (g : store.Ghosts S) (sql : List ℕ) (params : Row) {under : Schema} (plain : IsPlain (understood under sql)) (sure : IsSureIn under sql params) where
+  pub not_asked : {X : Type 0} (old new : Held S) (r : Result X Error) → OnErr r (IsRefused g sql params old r new) → FailsByStoreIn under (λ _. ⊤) (state g old) (state g new) r
   not_asked old new (Ok x) held = λ clean here all. tt
-  not_asked old new (Err e) held = λ clean here all other. sure_fails sql params (state g old) (state g new) e here plain sure (held.err clean)
+  not_asked old new (Err e) held = λ clean here all other. sure_fails_in under sql params (state g old) (state g new) e here plain sure (held.err clean)
 
-  pub not_advanced : (Q : List Row → Type 0) (first : State) (old new : Held S) (r : Result (Unit {0}) Error) → Looks {X = Unit {0}} first (state g old) (Ok tt) (λ _. SoFar g sql params Q first old)
-      → (HasCleanDisk (state g new) → IfErr r (FailsToAdvance g old new)) → Survives (state g old) (state g new) (λ _. ⊥) → FailsByStore (λ _. ⊤) first (state g new) r
+  pub not_advanced : (Q : List Row → Type 0) (first : State) (old new : Held S) (r : Result (Unit {0}) Error) → LooksIn {X = Unit {0}} under first (state g old) (Ok tt) (λ _. SoFar g sql params Q first old)
+      → (HasCleanDisk (state g new) → IfErr r (FailsToAdvance g old new)) → Survives (state g old) (state g new) (λ _. ⊥) → FailsByStoreIn under (λ _. ⊤) first (state g new) r
   not_advanced Q first old new (Ok x) far err survives = λ clean here all. tt
   not_advanced Q first old new (Err e) far err survives = λ clean here all other.
       let before = far.2 (clean_before survives clean) here in
       let so_far = before.1 in
       since_first first (state g old) (state g new) _ e far.0 before.0
-      (sure_fails sql params (state g old) (state g new) e (still_placed first (state g old) here so_far.0) plain sure (err clean sql params so_far.1 so_far.2))
+      (sure_fails_in under sql params (state g old) (state g new) e (still_placed first (state g old) here so_far.0) plain sure (err clean sql params so_far.1 so_far.2))
 
   -- a row that was given is one of those that the text shows
   pub given_is : (P : Row → Type 0) (Q : List Row → Type 0) (first : State) (now : Held S) (row : Option Row) (x : Row) → Some x ≡ row → ShowsOnly P sql params first
-      → Looks {X = Unit {0}} first (state g now) (Ok tt) (λ _. OneOn g sql params Q first now row) → HasCleanDisk (state g now) → IsPlaced first → P x
+      → LooksIn {X = Unit {0}} under first (state g now) (Ok tt) (λ _. OneOn g sql params Q first now row) → HasCleanDisk (state g now) → IsPlacedIn under first → P x
   given_is P Q first now row x is shows far clean here =
       let one = subst (OneOn g sql params Q first now) (sym is) (far.2 clean here).1 in
       last_has P one.1 x (shows (one.1 ++ x ∷ []) (begins_before sql params first (state g now) (one.1 ++ x ∷ []) one.0.0.now_is (given_begin g sql params now (one.1 ++ x ∷ []) one.2)))
@@ -124,18 +127,11 @@ pub asked_fails_in : {X : Type 0} (under : Schema) (sql : List ℕ) (params : Ro
 asked_fails_in under sql params old new (Ok x) plain err sure = λ clean here all. tt
 asked_fails_in under sql params old new (Err e) plain err sure = λ clean here all other. sure_fails_in under sql params old new e here plain sure (err clean)
 
-pub asked_fails : {X : Type 0} (sql : List ℕ) (params : Row) (old new : State) (r : Result X Error) → IsPlain (understood our_schema sql) → (HasCleanDisk new → IfErr r (FailsToQuery sql params old new)) → IsSure sql params
-    → FailsByStore (λ _. ⊤) old new r
-asked_fails sql params old new r = asked_fails_in our_schema sql params old new r
-
 -- ---- one call after the other
 
 -- looks led from the one state to the other, where this is known
 abbrev pub ReachesWhere : (State → Type 0) → State → State → Type 0
 ReachesWhere Known a b = Survives a b (λ _. ¬ Known a) × (HasCleanDisk b → Known a → IsTrue b.is_open × (b.now ≡ a.now) × (b.committed ≡ a.committed))
-
-abbrev pub Reaches : State → State → Type 0
-Reaches a b = ReachesWhere IsPlaced a b
 
 -- what a look leaves, whatever it tells
 abbrev pub LookedWhere : (State → Type 0) → Type 0 → State → State → Type 0
@@ -143,14 +139,8 @@ LookedWhere Known X a b =
     Survives a b (λ _. ¬ Known a) × (HasCleanDisk b → IsTrue b.is_open → IsTrue a.is_open × (Known a → (b.now ≡ a.now) × (b.committed ≡ a.committed)))
     × (HasCleanDisk b → Known a → IsTrue b.is_open × X)
 
-abbrev pub Looked : Type 0 → State → State → Type 0
-Looked X a b = LookedWhere IsPlaced X a b
-
 pub reached_where : {X : Type 0} (Known : State → Type 0) (a b : State) → LookedWhere Known X a b → ReachesWhere Known a b
 reached_where Known a b look = (look.0, λ clean here. let now = (look.2 clean here).0 in let same = (look.1 clean now).1 here in (now, same.0, same.1))
-
-pub reached : {X : Type 0} (a b : State) → Looked X a b → Reaches a b
-reached a b look = reached_where IsPlaced a b look
 
 -- it is known of what is the same
 abbrev pub StaysKnown : (State → Type 0) → Type 1
@@ -158,22 +148,6 @@ StaysKnown Known = (a b : State) → Known a → b.now ≡ a.now → b.committed
 
 pub placed_after : (under : Schema) → StaysKnown (IsPlacedIn under)
 placed_after under a b here now committed = record { schema = ap (λ (d : Database). d.schema) now ∙ here.schema; settled = now ∙ here.settled ∙ sym committed }
-
-pub reached_on_where : {X : Type 0} (Known : State → Type 0) → StaysKnown Known → (a b c : State) → ReachesWhere Known a b → LookedWhere Known X b c → ReachesWhere Known a c
-reached_on_where Known stays a b c way look =
-    let between = λ (clean : HasCleanDisk c) (here : Known a). way.1 (clean_before look.0 clean) here in (
-      survives_then a b c (λ _. ¬ Known a) (λ _. ¬ Known b) (λ _. ¬ Known a) (λ _ db none. none)
-          (λ clean db none here. let it = between clean here in none (stays a b here it.1 it.2)) way.0 look.0,
-      λ clean here.
-          let it = between clean here in
-          let known = stays a b here it.1 it.2 in
-          let now = (look.2 clean known).0 in
-          let same = (look.1 clean now).1 known in
-          (now, same.0 ∙ it.1, same.1 ∙ it.2),
-    )
-
-pub reached_on : {X : Type 0} (a b c : State) → Reaches a b → Looked X b c → Reaches a c
-reached_on a b c way look = reached_on_where IsPlaced (placed_after our_schema) a b c way look
 
 told_since : {Y : Type 0} (a b c : State) (P : Trees → Type 0) (r : Result Y Error) → Survives a b P → IsTrue b.is_open → IfErr r (λ e. e ≢ SqliteFailure code.OutOfMemory → IsOfStore b c e)
     → IfErr r (λ e. e ≢ SqliteFailure code.OutOfMemory → IsOfStore a c e)
@@ -186,8 +160,11 @@ fails_on_where Known stays a b c After First Rows r way survives given fails = �
     let it = way.1 (clean_before survives clean) here in
     told_since a b c _ r way.0 it.0 (fails clean (stays a b here it.1 it.2) (subst Rows (sym (ap (λ (d : Database). d.trees) it.1)) (given a.now.trees rows)))
 
-pub fails_on : {Y : Type 0} (a b c : State) (After First Rows : Trees → Type 0) (r : Result Y Error) → Reaches a b → Survives b c After → ((t : Trees) → First t → Rows t) → FailsByStore Rows b c r → FailsByStore First a c r
-fails_on a b c After First Rows r = fails_on_where IsPlaced (placed_after our_schema) a b c After First Rows r
+-- the second of two looks fails
+pub looks_fail : {X Y : Type 0} {under : Schema} (a b c : State) (x : X) (P : X → Type 0) (r : Result Y Error) (Q : Y → Type 0) (First Rows : Trees → Type 0) → LooksIn under a b (Ok x) P → LooksIn under b c r Q → ((t : Trees) → First t → Rows t)
+    → FailsByStoreIn under Rows b c r → FailsByStoreIn under First a c r
+looks_fail {X} {Y} {under} a b c x P r Q First Rows first next given fails =
+    fails_on_where (IsPlacedIn under) (placed_after under) a b c (λ _. ¬ IsPlacedIn under b) First Rows r (reached_where (IsPlacedIn under) a b first) next.0 given fails
 
 -- what is made of an answer refuses no rows like these
 pub made_fails_where : {X Y : Type 0} (Known : State → Type 0) (a b : State) (x : X) (P : X → Type 0) (Rows : Trees → Type 0) (r : Result Y Error) → ReadsWhere Known a b (Ok x) P
@@ -195,9 +172,9 @@ pub made_fails_where : {X Y : Type 0} (Known : State → Type 0) (a b : State) (
 made_fails_where Known a b x P Rows (Ok y) look never = λ clean here rows. tt
 made_fails_where Known a b x P Rows (Err e) look never = λ clean here rows other. absurd (never rows (look.2 clean here).1 other)
 
-pub made_fails : {X Y : Type 0} (a b : State) (x : X) (P : X → Type 0) (Rows : Trees → Type 0) (r : Result Y Error) → Looks a b (Ok x) P
-    → (Rows a.now.trees → P x → IfErr r (λ e. e ≢ SqliteFailure code.OutOfMemory → ⊥)) → FailsByStore Rows a b r
-made_fails a b x P Rows r = made_fails_where IsPlaced a b x P Rows r
+pub made_fails : {X Y : Type 0} {under : Schema} (a b : State) (x : X) (P : X → Type 0) (Rows : Trees → Type 0) (r : Result Y Error) → LooksIn under a b (Ok x) P
+    → (Rows a.now.trees → P x → IfErr r (λ e. e ≢ SqliteFailure code.OutOfMemory → ⊥)) → FailsByStoreIn under Rows a b r
+made_fails {X} {Y} {under} a b x P Rows r = made_fails_where (IsPlacedIn under) a b x P Rows r
 
 -- ---- what is made of rows
 
@@ -212,6 +189,41 @@ not_none show stored shown (Err e) same refused none = λ other. refused (none_s
 pub all_mapped : (P Q : Row → Type 0) (show : Row → Row) (rows : List Row) → ((r : Row) → Q r → P (show r)) → AllByRecursion Q rows → AllByRecursion P (map show rows)
 all_mapped P Q show [] way all = tt
 all_mapped P Q show (r ∷ rows) way all = (way r all.0, all_mapped P Q show rows way all.1)
+
+-- ---- a text that asks for all rows of a table
+
+module _ {under : Schema} (tree n : ℕ) (sql : List ℕ) (asks : AsksAll under tree n sql) where
+  columns_of : (n at : ℕ) (r : Row) → eval_all (columns_at at n) ([] ∷ r ∷ []) ≡ columns_from at n r
+  columns_of zero at r = refl
+  columns_of (suc n) at r = ap (λ more. column r at ∷ more) (columns_of n (at + 1) r)
+
+  as_columns : (stored shown : List Row) → IsPermutation (map (λ r. eval_all (columns_at 1 n) ([] ∷ r ∷ [])) (filter (passes [] []) stored)) shown → IsPermutation (map (columns_from 1 n) stored) shown
+  as_columns stored shown same =
+      subst (λ f. IsPermutation (map f stored) shown) (λ i r. columns_of n 1 r i) (subst (λ xs. IsPermutation (map (λ r. eval_all (columns_at 1 n) ([] ∷ r ∷ [])) xs) shown) (filter_all_true _) same)
+
+  -- shows them
+  pub shows_all : (old new : State) (rows : List Row) → old.now.schema ≡ under → Shown sql [] old new rows → IsPermutation (map (columns_from 1 n) (old.now.trees tree)) rows
+  shows_all old new rows schema shown =
+      let read = reads_as sql [] old new under schema (Select (program_of tree [] (columns_at 1 n)) asks.names) asks.means asks.plain asks.sure.0 rows shown in
+      as_columns (old.now.trees tree) rows (shows tree [] (columns_at 1 n) old.now.trees [] rows (asks.alone old.now.trees) (read.answer Null))
+
+  -- rows that begin an answer are those of the table, with others behind them
+  begins_all : (s : State) (rows : List Row) → s.now.schema ≡ under → Begins sql [] s rows → (tail : List Row) × IsPermutation (map (columns_from 1 n) (s.now.trees tree)) (rows ++ tail)
+  begins_all s rows schema h =
+      let read = begins_as sql [] s s under schema (Select (program_of tree [] (columns_at 1 n)) asks.names) asks.means asks.plain asks.sure.0 rows h in
+      (read.1.0, as_columns (s.now.trees tree) (rows ++ read.1.0) (shows tree [] (columns_at 1 n) s.now.trees [] (rows ++ read.1.0) (asks.alone s.now.trees) (read.1.1 Null)))
+
+all_front : (P : Row → Type 0) (rows tail : List Row) → AllByRecursion P (rows ++ tail) → AllByRecursion P rows
+all_front P [] tail all = tt
+all_front P (r ∷ rows) tail all = (all.0, all_front P rows tail all.1)
+
+-- rows that begin an answer of all rows of a table which are its own
+pub shows_only : {under : Schema} (tree n : ℕ) (sql : List ℕ) (P Q : Row → Type 0) (s : State) → AsksAll under tree n sql → ((r : Row) → Q r → P (columns_from 1 n r)) → s.now.schema ≡ under → AllByRecursion Q (s.now.trees tree)
+    → ShowsOnly P sql [] s
+shows_only tree n sql P Q s asks way schema stored rows h =
+    let it = begins_all tree n sql asks s rows schema h in
+    let all = all_mapped P Q (columns_from 1 n) (s.now.trees tree) way stored in
+    all_front P rows it.0 (all_from P (rows ++ it.0) (λ r here. all_has P _ r all (has_moved (rows ++ it.0) _ (IsPermutation-sym _ _ it.1) r here)))
 
 -- rows that are shown of stored ones which are the table's own
 pub all_shown : (P Q : Row → Type 0) (show : Row → Row) (stored shown : List Row) → ((r : Row) → Q r → P (show r)) → IsPermutation (map show stored) shown → AllByRecursion Q stored → All P shown
@@ -232,19 +244,11 @@ not_one f trees shown (Err e) way same refused rows = λ other.
     let few = rows.1 in
     refused (omega (arith, many, as_many, few)) (all_shown (IsShownAs f) (IsStoredAs f) show stored shown way same rows.0)
 
-pub not_meta : {X : Type 0} (trees : Trees) (shown : List Row) (r : Result X Error) → IsPermutation (map (columns_from 1 7) (trees 0)) shown → IfErr r (λ _. length shown ≤ 1 → ¬ All (IsShownAs meta_form) shown)
-    → AreStoredAs meta_form trees × (length (trees 0) ≤ 1) → IfErr r (λ e. e ≢ SqliteFailure code.OutOfMemory → ⊥)
-not_meta trees shown r = not_one meta_form trees shown r (λ row is. is)
-
-pub not_shown : {X : Type 0} (P : Row → Type 0) (shown : List Row) (r : Result X Error) → IfErr r (λ e. e ≢ SqliteFailure code.OutOfMemory → ¬ All P shown) → All P shown → IfErr r (λ e. e ≢ SqliteFailure code.OutOfMemory → ⊥)
-not_shown P shown (Ok x) refused all = tt
-not_shown P shown (Err e) refused all = λ other. refused other all
-
--- rows that are shown of a table whose rows are its own, and what reads them
-pub shown_fails : {R K Y : Type 0} (f : Form R K) (a b : State) (rows : Vec Row Global) (r : Result Y Error) → ShowsRows f a b (Ok rows) → IfErr r (λ e. e ≢ SqliteFailure code.OutOfMemory → ¬ All (IsShownAs f) rows.items)
-    → FailsByStore (AreStoredAs f) a b r
-shown_fails f a b rows (Ok y) shown refused = λ clean here stored. tt
-shown_fails f a b rows (Err e) shown refused = λ clean here stored other. absurd (refused other (shown clean here stored))
+-- what reads rows that are shown of a table whose rows are its own
+pub chosen_fails : {R K Y : Type 0} (f : Form R K) (chosen : R → Bool) (a b : State) (rows : Vec Row Global) (r : Result Y Error) → LooksIn our_schema a b (Ok rows) (λ rows. AreChosen f chosen a.now.trees rows.items)
+    → IfErr r (λ e. e ≢ SqliteFailure code.OutOfMemory → ¬ All (IsShownAs f) rows.items) → FailsByStore (AreStoredAs f) a b r
+chosen_fails f chosen a b rows (Ok y) looks refused = λ clean here stored. tt
+chosen_fails f chosen a b rows (Err e) looks refused = λ clean here stored other. absurd (refused other ((looks.2 clean here).1.1 stored))
 
 -- the first of the rows of `meta`, if there is one and no other
 pub not_first_meta : {X : Type 0} (schema : ℕ) (Q : Row → Type 0) → ((r : Row) → Q r → are_meta_cells schema (columns_from 1 7 r) ≡ true) → (stored shown : List Row) (r : Result X Error) → IsPermutation (map (columns_from 1 7) stored) shown

@@ -1,31 +1,25 @@
 -- The text of a meeting's choices passes its test.
-use Rattle.std.proofs.Common.{◌≡◌, ℕ, zero, suc, ◌+◌, ◌≤◌, ◌<◌, List, [], ◌∷◌, ◌++◌, length, flat_map, Bool, true, false, ◌&&◌, ◌||◌, refl, ap, ◌∙◌, arith, lit<, leb-true, lt-ltb}
-use Rattle.std.proofs.lemmas.Bool.{and_parts, and_from}
+use Rattle.std.proofs.Common.{◌≡◌, ℕ, zero, suc, ◌+◌, ◌≤◌, ◌<◌, List, [], ◌∷◌, ◌++◌, length, flat_map, true, ◌&&◌, refl, ap, ◌∙◌, arith, lit<, leb-true, lt-ltb}
+use Rattle.std.proofs.lemmas.Bool.{and_parts, and_from, or_right}
 use Rattle.std.proofs.lemmas.Slice.Eq.{bytes_eq-Decides}
-use Rattle.std.specs.Prelude.{nat_le, nat_lt, bytes_eq}
+use Rattle.std.specs.Prelude.{nat_le}
 use Rattle.std.specs.List.{list_all, AllByRecursion}
 use Rattle.std.specs.Str.{is_utf8}
 use Rattle.mr_model.specs.Texts.{Text, words}
-use Rattle.mr_model.specs.Calendar.{Date, is_date, date_text, date_in, time_text, time_in}
+use Rattle.mr_model.specs.Calendar.{Date, is_date, date_text, date_in, time_text}
 use Rattle.mr_model.specs.Slots.{Slot, is_slot, slot_words}
-use Rattle.mr_model.specs.Writes.{Meeting, is_title, is_length, is_meeting, greatest_alternatives, fits_day, choices_of}
+use Rattle.mr_model.specs.Writes.{Meeting, is_meeting, fits_day, choices_of}
 use Rattle.mr_model.specs.Tables.{choices_text}
+use Rattle.mr_model.proofs.LinesReadBack.{meeting_facts}
 use Rattle.mr_model.proofs.WordsReadBack.{all_append, date-text, time-text}
 use Rattle.mr_rows.specs.RowLimits.{is_day_text, is_start_text, begins_with_slot, are_choices, is_choices}
 use Rattle.mr_rows.proofs.CellLemmas.{Low, utf8, date_low, time_low}
 
 own_day : (d : Date) → is_date d ≡ true → is_day_text (date_text d) ≡ true
-own_day d h =
-    let same = date-text d h in
-    and_from (is_date (date_in (date_text d))) (bytes_eq (date_text (date_in (date_text d))) (date_text d)) (ap is_date same ∙ h) ((bytes_eq-Decides _ _).1 (ap date_text same))
+own_day d h = let same = date-text d h in and_from (is_date (date_in (date_text d))) _ (ap is_date same ∙ h) ((bytes_eq-Decides (date_text (date_in (date_text d))) _).1 (ap date_text same))
 
 own_time : (k n : ℕ) → k ≤ 1439 → nat_le (k + n) 1440 ≡ true → is_start_text n (time_text k) ≡ true
-own_time k n low fits =
-    let same = time-text k (omega (arith, low)) in
-    let t = time_text k in
-    and_from (nat_lt (time_in t) 1440 && bytes_eq (time_text (time_in t)) t) (nat_le (time_in t + n) 1440)
-    (and_from (nat_lt (time_in t) 1440) (bytes_eq (time_text (time_in t)) t) (ap (λ m. nat_lt m 1440) same ∙ lt-ltb k 1440 (omega (arith, low))) ((bytes_eq-Decides _ _).1 (ap time_text same)))
-    (ap (λ m. nat_le (m + n) 1440) same ∙ fits)
+own_time k n low fits = rw (time-text k (omega (arith, low))) (and_from _ _ (and_from _ _ (lt-ltb k 1440 (omega (arith, low))) ((bytes_eq-Decides (time_text k) (time_text k)).1 refl)) fits)
 
 -- a slot in front, whatever follows
 in_front : (n : ℕ) (s : Slot) (more : Text) → (is_slot s && fits_day n s) ≡ true → begins_with_slot n (date_text s.day ++ 32 ∷ (time_text s.start ++ more)) ≡ true
@@ -33,10 +27,6 @@ in_front n s more h =
     let both = and_parts (is_slot s) (fits_day n s) h in
     let slot = and_parts (is_date s.day) (nat_le s.start 1439) both.0 in
     and_from _ _ (and_from _ _ (own_day s.day slot.0) refl) (own_time s.start n (leb-true s.start 1439 slot.1) both.1)
-
-or_so : (a b : Bool) → b ≡ true → (a || b) ≡ true
-or_so true b h = refl
-or_so false b h = h
 
 slots_pass : (most n : ℕ) (s : Slot) (ss : List Slot) → length ss ≤ most → list_all (λ x. is_slot x && fits_day n x) (s ∷ ss) ≡ true → are_choices (suc most) n (words (flat_map slot_words (s ∷ ss))) ≡ true
 unfolding are_choices
@@ -48,7 +38,7 @@ slots_pass (suc most) n s (r ∷ ss) few h =
     let all = and_parts (is_slot s && fits_day n s) _ h in
     let rest = words (flat_map slot_words (r ∷ ss)) in
     let later = slots_pass most n r ss (omega (arith, few)) all.1 in
-    and_from _ _ (in_front n s (32 ∷ rest) all.0) (or_so _ _ later)
+    and_from _ _ (in_front n s (32 ∷ rest) all.0) (or_right _ _ later)
 
 -- ---- and it is UTF-8
 
@@ -66,6 +56,5 @@ slots_low n (s ∷ ss) h =
 
 pub choices_within : (m : Meeting) → is_meeting m ≡ true → is_choices m.length (choices_text m) ≡ true
 choices_within m h =
-    let a = and_parts (is_title m.title && is_length m.length && nat_le (length m.alternatives) greatest_alternatives) (list_all (λ s. is_slot s && fits_day m.length s) (choices_of m)) h in
-    let few = leb-true (length m.alternatives) greatest_alternatives (and_parts (is_title m.title && is_length m.length) (nat_le (length m.alternatives) greatest_alternatives) a.0).1 in
-    and_from (is_utf8 (choices_text m)) (are_choices 17 m.length (choices_text m)) (utf8 (choices_text m) (words_low (flat_map slot_words (choices_of m)) (slots_low m.length (choices_of m) a.1))) (slots_pass 16 m.length m.wish m.alternatives few a.1)
+    let f = meeting_facts m h in
+    and_from (is_utf8 (choices_text m)) _ (utf8 (choices_text m) (words_low (flat_map slot_words (choices_of m)) (slots_low m.length (choices_of m) f.slots))) (slots_pass 16 m.length m.wish m.alternatives f.few f.slots)

@@ -3,20 +3,20 @@ use Rattle.std.proofs.Common.{◌≡◌, ℕ, Bool, true, false, List, [], ◌�
 use Rattle.std.specs.Prelude.{find, nat_lt}
 use Rattle.std.specs.List.Sorted.{IsPermutation}
 use Rattle.std.proofs.lemmas.List.Sorted.{IsPermutation-sym, Contains-permutation}
-use Rattle.sqlite_trees.specs.Tree.{Trees}
+use Rattle.sqlite_value.specs.Order.{Row}
 use Rattle.sqlite_rules.specs.Lists as rules
 use Rattle.sqlite_rules.proofs.ListLemmas.{has_contained, contains_had}
 use Rattle.mr_model.specs.Writes.{Id, same_id}
 use Rattle.mr_model.specs.Replica.{is_among}
-use Rattle.mr_model.specs.Tables.{MetaRow, BookingRow, ErrorRow, CancelledRow, CancelRow}
-use Rattle.mr_model.specs.Queries.{booking_id, error_id, cancelled_id, cancel_id}
+use Rattle.mr_model.specs.Tables.{MetaRow}
 use Rattle.mr_model.specs.Dropped.{Has}
 use Rattle.mr_model.proofs.Members.{has_filter, filter_has, find_none, find_one}
-use Rattle.mr_tables.specs.Change.{id_before}
-use Rattle.mr_tables.proofs.Putting.{OneAKey, one_a_key, id_order, number_order}
-use Rattle.mr_rows.specs.Database.{first_meta, tables_in}
-use Rattle.mr_rows.specs.RowCells.{meta_in, booking_row_from, error_in, cancelled_in, cancel_row_from}
-use Rattle.mr_rows.specs.Reads.{metas_in, first_of}
+use Rattle.mr_tables.specs.Change.{id_before, put_all}
+use Rattle.mr_tables.specs.TableOrders.{id_order, number_order}
+use Rattle.mr_tables.proofs.Putting.{OneAKey, one_a_key}
+use Rattle.mr_rows.specs.Database.{first_meta}
+use Rattle.mr_rows.specs.RowCells.{meta_in}
+use Rattle.mr_rows.specs.Reads.{first_of}
 use Rattle.mr_rows.proofs.SortedByKey.{ordered_in_order}
 use Rattle.mr_rows.proofs.ValueLemmas.{among_one, or_false}
 
@@ -48,43 +48,18 @@ found {R} key id table (r ∷ more) one same =
     sym (find_one (λ r. same_id (key r) id) r table there.0 (sym (or_false (same_id (key r) id)) ∙ there.1)
     (λ y h e. one y r h there.0 (among_one (key y) id (or_false (same_id (key y) id) ∙ e) ∙ sym is)))
 
-pub bookings_apart : (trees : Trees) → OneAKey booking_id (tables_in trees).booking
-unfolding tables_in
-bookings_apart trees = one_a_key id_before booking_id id_order _ (ordered_in_order id_before booking_id id_order (map booking_row_from (trees 10)))
+-- rows that stand by their ids have each once
+pub ids_apart : {R : Type 0} (key : R → Id) (row_in : Row → R) (stored : List Row) → OneAKey key (put_all id_before key (map row_in stored) [])
+ids_apart key row_in stored = one_a_key id_before key id_order _ (ordered_in_order id_before key id_order (map row_in stored))
 
-pub errors_apart : (trees : Trees) → OneAKey error_id (tables_in trees).errorlog
-unfolding tables_in
-errors_apart trees = one_a_key id_before error_id id_order _ (ordered_in_order id_before error_id id_order (map error_in (trees 12)))
-
-pub cancelled_apart : (trees : Trees) → OneAKey cancelled_id (tables_in trees).cancelled
-unfolding tables_in
-cancelled_apart trees = one_a_key id_before cancelled_id id_order _ (ordered_in_order id_before cancelled_id id_order (map cancelled_in (trees 16)))
-
-pub cancels_apart : (trees : Trees) → OneAKey cancel_id (tables_in trees).cancels
-unfolding tables_in
-cancels_apart trees = one_a_key id_before cancel_id id_order _ (ordered_in_order id_before cancel_id id_order (map cancel_row_from (trees 18)))
-
-pub found_booking : (id : Id) (trees : Trees) (shown : List BookingRow) → IsPermutation (filter (λ (r : BookingRow). is_among (booking_id r) (id ∷ [])) (tables_in trees).booking) shown
-    → first_of shown ≡ find (λ r. same_id (booking_id r) id) (tables_in trees).booking
-found_booking id trees shown = found booking_id id (tables_in trees).booking shown (bookings_apart trees)
-
-pub found_error : (id : Id) (trees : Trees) (shown : List ErrorRow) → IsPermutation (filter (λ (r : ErrorRow). is_among (error_id r) (id ∷ [])) (tables_in trees).errorlog) shown
-    → first_of shown ≡ find (λ r. same_id (error_id r) id) (tables_in trees).errorlog
-found_error id trees shown = found error_id id (tables_in trees).errorlog shown (errors_apart trees)
-
-pub found_cancelled : (id : Id) (trees : Trees) (shown : List CancelledRow) → IsPermutation (filter (λ (r : CancelledRow). is_among (cancelled_id r) (id ∷ [])) (tables_in trees).cancelled) shown
-    → first_of shown ≡ find (λ r. same_id (cancelled_id r) id) (tables_in trees).cancelled
-found_cancelled id trees shown = found cancelled_id id (tables_in trees).cancelled shown (cancelled_apart trees)
-
-pub found_cancel : (id : Id) (trees : Trees) (shown : List CancelRow) → IsPermutation (filter (λ (r : CancelRow). is_among (cancel_id r) (id ∷ [])) (tables_in trees).cancels) shown
-    → first_of shown ≡ find (λ r. same_id (cancel_id r) id) (tables_in trees).cancels
-found_cancel id trees shown = found cancel_id id (tables_in trees).cancels shown (cancels_apart trees)
+pub first_found : {R : Type 0} (key : R → Id) (row_in : Row → R) (id : Id) (stored : List Row) (shown : List R) → IsPermutation (filter (λ r. is_among (key r) (id ∷ [])) (put_all id_before key (map row_in stored) [])) shown
+    → first_of shown ≡ find (λ r. same_id (key r) id) (put_all id_before key (map row_in stored) [])
+first_found key row_in id stored shown = found key id _ shown (ids_apart key row_in stored)
 
 -- ---- the row of `meta`
 
-pub meta_is : (trees : Trees) (shown : List MetaRow) (m : MetaRow) → IsPermutation (metas_in trees) shown → first_of shown ≡ Some m → m ≡ (tables_in trees).meta
-unfolding tables_in
-meta_is trees shown m same first = go (metas_in trees) (has_moved shown (metas_in trees) m (IsPermutation-sym _ _ same) (has_first shown first)) (one_a_key nat_lt (λ _. 1) number_order _ (ordered_in_order nat_lt (λ _. 1) number_order (map meta_in (trees 0))))
+pub meta_is : (rows : List Row) (shown : List MetaRow) (m : MetaRow) → IsPermutation (put_all nat_lt (λ _. 1) (map meta_in rows) []) shown → first_of shown ≡ Some m → m ≡ first_meta (put_all nat_lt (λ _. 1) (map meta_in rows) [])
+meta_is rows shown m same first = go _ (has_moved shown _ m (IsPermutation-sym _ _ same) (has_first shown first)) (one_a_key nat_lt (λ _. 1) number_order _ (ordered_in_order nat_lt (λ _. 1) number_order (map meta_in rows)))
   where
     has_first : (xs : List MetaRow) → first_of xs ≡ Some m → Has m xs
     has_first [] e = absurd (cc)

@@ -1,47 +1,40 @@
 -- What each form of statement makes of the rows of its table.
-use Rattle.std.proofs.Common.{◌≡◌, ◌≢◌, ◌⊎◌, inl, inr, ℕ, ℤ, List, [], ◌∷◌, ◌++◌, map, filter, flat_map, Bool, true, false, not, if◌then◌else◌, Some, None, Option, Ok, Err, Result, refl, sym, ap, subst, ◌∙◌}
-use Rattle.std.specs.List.Sorted.{IsPermutation}
-use Rattle.std.proofs.lemmas.List.Sorted.{IsPermutation-map}
+use Rattle.std.proofs.Common.{◌≡◌, ◌≢◌, ◌⊎◌, inl, inr, ℕ, ℤ, List, [], ◌∷◌, ◌++◌, map, filter, flat_map, Bool, true, false, not, if◌then◌else◌, Some, None, Option, Ok, Err, Result, Less, refl, sym, ap, subst, ◌∙◌}
 use Rattle.std.specs.List.{list_all}
+use Rattle.std.specs.List.Sorted.{IsPermutation}
+use Rattle.std.specs.Ordering.{is_lt, int_cmp}
+use Rattle.std.specs.Prelude.{length, ◌/◌, MatchBool}
+use Rattle.std.proofs.lemmas.List.Sorted.{Contains-permutation, IsPermutation-map, IsPermutation-sym}
 use Rattle.sqlite_value.specs.declared.value.Value.TheVariants.{Null, Int}
-use Rattle.sqlite_value.specs.Order.{Row}
-use Rattle.sqlite_trees.specs.Tree.{Trees, rowid}
+use Rattle.sqlite_value.specs.Order.{Row, value_cmp}
+use Rattle.sqlite_trees.specs.Tree.{Trees, rowid, put_row}
+use Rattle.sqlite_trees.proofs.ListLemmas.{map-map}
 use Rattle.sqlite_sql.specs.Term.{Term, col, holds, eval_all}
 use Rattle.sqlite_sql.specs.Query.{Query, IsAnswer, output, Output}
 use Rattle.sqlite_sql.specs.Program.{overlay, IsProgramAnswer}
 use Rattle.sqlite_schema.specs.Program.{lets_of}
-use Rattle.sqlite_rules.specs.Lists.{Has}
-use Rattle.std.proofs.lemmas.List.Sorted.{Contains-permutation}
-use Rattle.std.proofs.lemmas.List.Sorted.{IsPermutation-sym}
 use Rattle.sqlite_schema.specs.declared.command.Command.TheVariants.{Delete, InsertOr}
-use Rattle.sqlite_schema.specs.declared.program.Program.{Program}
-use Rattle.sqlite_rules.specs.declared.error.Rowids.TheVariants.{Given, Chosen, Above}
-use Rattle.sqlite_rules.specs.Edit.{edit_of, id_in, IsNoIndex, without_all, next_rowid, taken_by}
-use Rattle.sqlite_rules.specs.Calls.{ids_of}
-use Rattle.sqlite_rules.specs.Action.{works}
-use Rattle.sqlite_rules.proofs.ListLemmas.{all_has, all_from, has_filtered, has_kept, has_contained, contains_had}
-use Rattle.sqlite_rules.proofs.TableLemmas.{int_is}
-use Rattle.sqlite.specs.declared.run.Mode.{Mode}
-use Rattle.sqlite.specs.Effect.{Database}
-use Rattle.sqlite.specs.Rows.{Task, Written}
-use Rattle.sqlite.specs.Does.{Tally, OnRows}
-use Rattle.sqlite.proofs.Callers.{one_step}
-use Rattle.mr_rows.proofs.RowLemmas.{removed}
-use Rattle.std.proofs.Common.{Less}
-use Rattle.std.specs.Prelude.{length, ◌/◌, MatchBool}
-use Rattle.sqlite_value.specs.Order.{value_cmp}
-use Rattle.sqlite_trees.specs.Tree.{put_row}
 use Rattle.sqlite_schema.specs.declared.command.Conflict.TheVariants.{Replace}
 use Rattle.sqlite_schema.specs.declared.command.Source.TheVariants.{Values}
+use Rattle.sqlite_schema.specs.declared.program.Program.{Program}
+use Rattle.sqlite_rules.specs.declared.error.Rowids.TheVariants.{Given, Chosen, Above}
+use Rattle.sqlite_rules.specs.Action.{works}
+use Rattle.sqlite_rules.specs.Calls.{ids_of}
 use Rattle.sqlite_rules.specs.Cast.{cast_row}
+use Rattle.sqlite_rules.specs.Edit.{edit_of, id_in, IsNoIndex, without_all, next_rowid, taken_by, with_rowid}
 use Rattle.sqlite_rules.specs.Keys.{AreConflicts, conflicts}
-use Rattle.sqlite_rules.specs.Edit.{with_rowid}
-use Rattle.sqlite.specs.Effect.{value_rows}
-use Rattle.sqlite.specs.Rows.{Puts, Clears, Tries, stamped, mended, rowids_for, nothing, TriesEach, count_of, Counts, CountsIn, Gives, sequence}
-use Rattle.std.specs.Ordering.{is_lt, int_cmp}
-use Rattle.mr_rows.proofs.RowLemmas.{put_last, next_above}
-use Rattle.mr_rows.specs.Shelf.{IsShelf}
+use Rattle.sqlite_rules.specs.Lists.{Has}
+use Rattle.sqlite_rules.proofs.ListLemmas.{all_from, has_filtered, has_kept, has_contained, contains_had}
+use Rattle.sqlite_rules.proofs.ProbeLemmas.{has_mapped}
+use Rattle.sqlite.specs.declared.run.Mode.{Mode}
+use Rattle.sqlite.specs.Does.{Tally, OnRows}
+use Rattle.sqlite.specs.Effect.{Database, value_rows}
+use Rattle.sqlite.specs.Rows.{Task, Written, Puts, Clears, Tries, TriesEach, Counts, CountsIn, Gives, stamped, mended, rowids_for, nothing, count_of, sequence}
+use Rattle.sqlite.proofs.Callers.{one_step}
 use Rattle.mr_rows.specs.Meaning.{query_of, passes}
+use Rattle.mr_rows.specs.Shelf.{IsShelf}
+use Rattle.mr_rows.proofs.RowLemmas.{removed, put_last, next_above}
+pub use Rattle.sqlite_rules.proofs.ProbeLemmas.{mapped_has as has_map}
 
 -- what does not stop goes on
 pub went : {B E R : Type 0} {b : B} {Stops : E → Type 0} → ((stop : E) × Stops stop × (Ok b ≡ Err stop)) ⊎ R → R
@@ -66,24 +59,10 @@ shows tree tests project db params rows own a =
     let found : a.kept ≡ map (λ r. output q (params ∷ r ∷ [])) (filter (passes tests params) (db tree)) =
     a.distinct ∙ ap (map (output q)) a.grouped ∙ staged (output q) tests params (overlay db [] tree) ∙ ap (λ rs. map (λ r. output q (params ∷ r ∷ [])) (filter (passes tests params) rs)) own in
     let moved = IsPermutation-map show _ _ (subst (λ k. IsPermutation k a.ordered) found a.same) in
-    subst (IsPermutation _) (sym a.shown) (subst (λ xs. IsPermutation xs (map show a.ordered)) (twice show _ _) moved)
-  where
-    twice : {A B C : Type 0} (g : B → C) (f : A → B) (xs : List A) → map g (map f xs) ≡ map (λ x. g (f x)) xs
-    twice g f [] = refl
-    twice g f (x ∷ xs) = ap (λ ys. g (f x) ∷ ys) (twice g f xs)
+    subst (IsPermutation _) (sym a.shown) (subst (λ xs. IsPermutation xs (map show a.ordered)) (map-map show _ _) moved)
 
 pub same_value : {B E : Type 0} {a b : B} → ◌≡◌ {A = Result B E} (Ok a) (Ok b) → a ≡ b
 same_value e = cc
-
-map_has : {X Y : Type 0} (f : X → Y) (xs : List X) (y : Y) → Has (map f xs) y → (x : X) × Has xs x × (y ≡ f x)
-map_has f [] y h = absurd h
-map_has f (x ∷ xs) y (inl is) = (x, inl refl, is)
-map_has f (x ∷ xs) y (inr h) = let it = map_has f xs y h in (it.0, inr it.1, it.2)
-
-pub has_map : {X Y : Type 0} (f : X → Y) (xs : List X) (x : X) → Has xs x → Has (map f xs) (f x)
-has_map f (y ∷ xs) x (inl is) = inl (ap f is)
-has_map f (y ∷ xs) x (inr h) = inr (has_map f xs x h)
-has_map f [] x h = absurd h
 
 pub has_moved : {X : Type 0} (xs ys : List X) → IsPermutation xs ys → (x : X) → Has xs x → Has ys x
 has_moved xs ys moved x h = has_contained ys x (Contains-permutation xs ys x moved (contains_had xs x h))
@@ -100,6 +79,11 @@ sure : (db : Trees) (params : Row) (rows : List Row) (q : Program) {body : Query
 sure db params rows q is h = (subst (λ (p : Program). IsProgramAnswer (lets_of p) q.body db params rows) is h) Null
 
 module _ (task : Task) (mode : Mode) (free : (taken news : List Row) → works task.schema task.keys 0 task.table.tree taken news ≡ []) where
+  -- what trees that a statement made leave
+  leaves : (db next : Trees) (after : Database) (rows : List Row) → after ≡ record { schema = task.schema; trees = next } → next task.table.tree ≡ rows
+      → ((t : ℕ) → t ≢ task.table.tree → IsNoIndex task.schema t → next t ≡ db t) → Leaves task db after rows
+  leaves db next after rows is table others = subst (λ d. Leaves task db d rows) (sym is) (record { schema = refl; table = table; others = others })
+
   -- a row taken away by key, as any rows that pass tests
   pub deletes : (at : ℕ) (tests : List Term) (q : Program) (db : Trees) (tally : Tally) (after : Database)
       → q ≡ record { lets = []; body = query_of task.table.tree tests (col 1 0 ∷ []) } → overlay db [] task.table.tree ≡ db task.table.tree → IsShelf (db task.table.tree)
@@ -113,30 +97,22 @@ module _ (task : Task) (mode : Mode) (free : (taken news : List Row) → works t
       let edit = edit_of db task.table (ids_of rows) Given 0 [] in
       let next = wrote.0 in
       let step = one_step task.schema task.keys db next edit (free (taken_by db edit) edit.news) wrote.1 in
-      let written : all.0.trees ≡ next = ap (λ (w : Written). w.trees) (same_value wrote.2) in
       let ends = went (went all.2).2 in
-      let now : after ≡ record { schema = task.schema; trees = all.0.trees } = ap (λ (p : Tally × Database). p.1) (same_value ends.2) in
-      let trees : after.trees ≡ next = ap (λ (d : Database). d.trees) now ∙ written in
+      let now : after ≡ record { schema = task.schema; trees = next } =
+      ap (λ (p : Tally × Database). p.1) (same_value ends.2) ∙ ap (λ (w : Written). record { schema = task.schema; trees = w.trees }) (same_value wrote.2) in
       let params = task.params in
       let test = passes tests params in
       let show = λ (r : Row). eval_all (col 1 0 ∷ []) (params ∷ r ∷ []) in
       let kept = db tree in
       let answer : IsAnswer (query_of tree tests (col 1 0 ∷ [])) (overlay db []) params rows = subst (λ (p : Program). IsAnswer p.body (overlay db []) params rows) is (sure db params rows q is queried.1.answer) in
       let moved = shows tree tests (col 1 0 ∷ []) db params rows own answer in
-      let whole = λ (r : Row) (here : Has kept r). int_is (rowid r) (all_has _ kept r shelf.keyed here) in
-      let sound : (id : ℤ) → Has (ids_of rows) id → (r : Row) × Has kept r × (test r ≡ true) × (rowid r ≡ Int id) = λ id h.
-      let x = map_has (λ r. id_in (rowid r)) rows id h in
-      let y = map_has show (filter test kept) x.0 (has_moved rows _ (IsPermutation-sym _ _ moved) x.0 x.1) in
+      let sound : (x : Row) → Has rows x → (r : Row) × Has kept r × (test r ≡ true) × (id_in (rowid x) ≡ id_in (rowid r)) = λ x h.
+      let y = has_mapped show (filter test kept) x (has_moved rows _ (IsPermutation-sym _ _ moved) x h) in
       let z = has_filtered test kept y.0 y.1 in
-      let same : id ≡ id_in (rowid y.0) = x.2 ∙ ap (λ r. id_in (rowid r)) y.2 in
-      (y.0, z.0, z.1, whole y.0 z.0 ∙ ap Int (sym same)) in
-      let complete : (r : Row) → Has kept r → test r ≡ true → Has (ids_of rows) (id_in (rowid r)) = λ r here does.
-      has_map (λ r. id_in (rowid r)) rows (show r) (has_moved _ rows moved (show r) (has_map show (filter test kept) r (has_kept test kept r here does))) in
-      record {
-        schema = ap (λ (d : Database). d.schema) now;
-        table = ap (λ (t : Trees). t tree) trees ∙ step.rows ∙ removed kept (ids_of rows) test shelf sound complete;
-        others = λ t other free. ap (λ (trees : Trees). trees t) trees ∙ step.others t other free;
-      }
+      (y.0, z.0, z.1, ap (λ r. id_in (rowid r)) y.2) in
+      let complete : (r : Row) → Has kept r → test r ≡ true → (x : Row) × Has rows x × (id_in (rowid x) ≡ id_in (rowid r)) = λ r here does.
+      (show r, has_moved _ rows moved (show r) (has_map show (filter test kept) r (has_kept test kept r here does)), refl) in
+      leaves db next after _ now (step.rows ∙ removed kept rows test shelf sound complete) step.others
 
   -- one row put at a rowid above all others
   puts_alone : (new : Row) (db : Trees) (one : Written) → cast_row task.table new ≡ new → Puts task new db (Ok one)
@@ -197,26 +173,18 @@ module _ (task : Task) (mode : Mode) (free : (taken news : List Row) → works t
       let found = was.0 in
       let done = clears (Int id ∷ cells) db found one.0 (keyed id) was.2 in
       let ended = went each.2 in
-      let kept : ended.0 ≡ each.0.0.trees = uncounts each.0.0.trees counted.0 each.0.1 ended.0 uncounted ended.1 in
-      let joined_is : each.0.0.trees ≡ one.0.trees = ap (λ (p : Written × ℤ). p.0.trees) (same_value one.2) in
-      let written : all.0.trees ≡ ended.0 = ap (λ (w : Written). w.trees) (same_value ended.2) in
+      let written : all.0.trees ≡ one.0.trees =
+      ap (λ (w : Written). w.trees) (same_value ended.2) ∙ uncounts each.0.0.trees counted.0 each.0.1 ended.0 uncounted ended.1 ∙ ap (λ (p : Written × ℤ). p.0.trees) (same_value one.2) in
       let ends = went (went all.2).2 in
-      let now : after ≡ record { schema = task.schema; trees = all.0.trees } = ap (λ (p : Tally × Database). p.1) (same_value ends.2) in
-      let trees : after.trees ≡ one.0.trees = ap (λ (d : Database). d.trees) now ∙ written ∙ kept ∙ joined_is in
-      let whole = λ (r : Row) (here : Has rows r). int_is (rowid r) (all_has _ rows r shelf.keyed here) in
+      let now : after ≡ record { schema = task.schema; trees = one.0.trees } =
+      ap (λ (p : Tally × Database). p.1) (same_value ends.2) ∙ ap (λ (t : Trees). record { schema = task.schema; trees = t }) written in
       let below = next_above rows shelf in
-      let sound : (i : ℤ) → Has (ids_of found) i → (r : Row) × Has rows r × (same_key r ≡ true) × (rowid r ≡ Int i) = λ i h.
-      let x = map_has (λ r. id_in (rowid r)) found i h in
-      let y = was.1.sound x.0 x.1 in
-      let same : i ≡ id_in (rowid y.0) = x.2 ∙ ap (λ r. id_in (rowid r)) y.3 in
-      (y.0, y.1, sym (agrees id y.0 (below y.0 y.1)) ∙ y.2, whole y.0 y.1 ∙ ap Int (sym same)) in
-      let complete : (r : Row) → Has rows r → same_key r ≡ true → Has (ids_of found) (id_in (rowid r)) = λ r here does.
-      has_map (λ r. id_in (rowid r)) found (rowid r ∷ []) (was.1.complete r here (agrees id r (below r here) ∙ does)) in
-      let left = removed rows (ids_of found) same_key shelf sound complete in
+      let sound : (x : Row) → Has found x → (r : Row) × Has rows r × (same_key r ≡ true) × (id_in (rowid x) ≡ id_in (rowid r)) = λ x h.
+      let y = was.1.sound x h in
+      (y.0, y.1, sym (agrees id y.0 (below y.0 y.1)) ∙ y.2, ap (λ v. id_in (rowid v)) y.3) in
+      let complete : (r : Row) → Has rows r → same_key r ≡ true → (x : Row) × Has found x × (id_in (rowid x) ≡ id_in (rowid r)) = λ r here does.
+      (rowid r ∷ [], was.1.complete r here (agrees id r (below r here) ∙ does), refl) in
+      let left = removed rows found same_key shelf sound complete in
       let others = filter (λ r. not (same_key r)) rows in
       let last = put_last (Int id ∷ cells) others (all_from _ others (λ r h. below r (has_filtered (λ r. not (same_key r)) rows r h).0)) in
-      record {
-        schema = ap (λ (d : Database). d.schema) now;
-        table = ap (λ (t : Trees). t tree) trees ∙ done.0 ∙ ap (put_row (Int id ∷ cells)) left ∙ last;
-        others = λ t other none. ap (λ (all : Trees). all t) trees ∙ done.1 t other none;
-      }
+      leaves db one.0.trees after _ now (done.0 ∙ ap (put_row (Int id ∷ cells)) left ∙ last) done.1

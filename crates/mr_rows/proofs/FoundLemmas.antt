@@ -1,11 +1,11 @@
 -- Rows that were found in the tables of a sound database, and read, are held.
-use Rattle.std.proofs.Common.{◌≡◌, inl, inr, ℕ, pos, Bool, ◌+◌, zero, suc, List, [], ◌∷◌, map, length, drop, true, not, ◌&&◌, ◌||◌, IsTrue, None, Some, Option, Ok, Err, Result, IfOk, OnOk, refl, sym, ap, subst, ◌∙◌, Less, arith, add-one, eq-eqb}
+use Rattle.std.proofs.Common.{◌≡◌, inl, inr, ℕ, pos, ◌+◌, zero, suc, List, [], ◌∷◌, map, length, drop, true, not, ◌&&◌, ◌||◌, IsTrue, None, Some, Option, Ok, Err, Result, IfOk, OnOk, refl, sym, ap, subst, ◌∙◌, Less, arith, add-one, eq-eqb}
 use Rattle.std.specs.List.{All, AllByRecursion, list_all}
 use Rattle.std.proofs.lemmas.List.Elements.{recursion_from_All}
 use Rattle.std.specs.List.Sorted.{IsPermutation}
 use Rattle.std.proofs.lemmas.List.Sorted.{IsPermutation-map, IsPermutation-sym}
 use Rattle.std.proofs.lemmas.Bool.{and_parts, and_from}
-use Rattle.std.specs.Prelude.{nat_lt}
+use Rattle.std.specs.Prelude.{nat_lt, ⊤}
 use Rattle.std.proofs.lemmas.Slice.Eq.{bytes_eq-Decides}
 use Rattle.sqlite_value.specs.declared.value.Value.{Value}
 use Rattle.sqlite_value.specs.declared.value.Value.TheVariants.{Null, Int, Real, Text, Blob}
@@ -23,7 +23,6 @@ use Rattle.sqlite_schema.specs.declared.schema.Schema.{Schema}
 use Rattle.sqlite_schema.specs.declared.schema.Table.{Table}
 use Rattle.sqlite.specs.declared.error.Error.{Error}
 use Rattle.sqlite.specs.Effect.{Database, IsDatabase}
-use Rattle.sqlite.specs.State.{State, Shown}
 use Rattle.sqlite_schema.specs.Rules.{equal, differ, agree, guards, clashes, suits, are_typed, are_present, has_computed, passes}
 use Rattle.sqlite_rules.specs.Lists.{Has}
 use Rattle.sqlite_rules.specs.Edit.{id_in}
@@ -33,18 +32,16 @@ use Rattle.sqlite_catalog.specs.Listing.{IsSound}
 use Rattle.sqlite.specs.Collation.TheVariants.{Binary}
 use Rattle.mr_model.specs.Texts as texts
 use Rattle.mr_model.specs.Writes.{Id}
-use Rattle.mr_model.specs.Tables.{MetaRow, Tables}
+use Rattle.mr_model.specs.Tables.{MetaRow, VectorRow, LogRow, BookingRow, ErrorRow, CancelledRow, CancelRow, Tables}
 use Rattle.mr_tables.specs.Change.{put, put_all}
 use Rattle.mr_rows.specs.RowCells.{meta_in}
 use Rattle.mr_rows.specs.Schema.{our_schema}
 use Rattle.mr_rows.specs.Shelf.{IsShelf}
-use Rattle.mr_rows.specs.Form.{Form, meta_form, room_form, vector_form, log_form, booking_form, error_form, cancelled_form, cancel_form}
-use Rattle.mr_rows.specs.Database.{IsRowOf, IsHeld, AreHeld, IsOurs, first_meta, tables_in}
-use Rattle.mr_rows.specs.Reads.{Looks}
-use Rattle.mr_rows.proofs.QueryLemmas.{looks_so}
-use Rattle.mr_rows.specs.Kept.{AreTaken}
-use Rattle.mr_rows.specs.Shown.{IsShownSo, columns_from, IsShownAs, IsStoredAs, AreStoredAs, AreOurRows, IsMeta, listed}
+use Rattle.mr_rows.specs.Form.{Form, meta_form_of, meta_form, room_form, vector_form, log_form, booking_form, error_form, cancelled_form, cancel_form}
+use Rattle.mr_rows.specs.Database.{IsRowOf, IsHeld, AreHeld, first_meta, in_order, tables_in}
+use Rattle.mr_rows.specs.Shown.{columns_from, IsShownAs, IsStoredAs, AreStoredAs, AreOurRows, IsMeta, listed}
 use Rattle.mr_rows.specs.Shelf.{HasShelves}
+use Rattle.mr_rows.specs.Kept.{AreRowsOf}
 use Rattle.mr_rows.proofs.FormLemmas.{has_map, has_moved}
 use Rattle.mr_rows.proofs.ValueLemmas.{equal_nat, equal_text}
 use Rattle.mr_rows.proofs.StatementLemmas.{first_put}
@@ -54,37 +51,17 @@ use Rattle.mr_rows.proofs.StatementLemmas.{first_put}
 pub stored_so : (P Q : Row → Type 0) (show : Row → Row) (stored shown : List Row) → ((r : Row) → P (show r) → Q r) → IsPermutation (map show stored) shown → AllByRecursion P shown → AllByRecursion Q stored
 stored_so P Q show stored shown way same all = all_from Q stored (λ r here. way r (all_has P shown (show r) all (has_moved _ shown same (show r) (has_map show stored r here))))
 
-pub found_so : {X : Type 0} {R K : Type 0} (f : Form R K) (show : Row → Row) (stored shown : List Row) (r : Result X Error) → ((row : Row) → IsShownAs f (show row) → IsStoredAs f row)
-    → IsPermutation (map show stored) shown → OnOk r (All (IsShownAs f) shown) → IfOk r (λ _. AllByRecursion (IsStoredAs f) stored)
-found_so f show stored shown (Ok x) way same all = stored_so (IsShownAs f) (IsStoredAs f) show stored shown way same (recursion_from_All _ shown all)
-found_so f show stored shown (Err e) way same all = tt
-
--- a table of which each row that a text shows was taken
-pub taken_by : {X R K : Type 0} (f : Form R K) (rows_of : Tables → List R) (keep : Bool) (text : List ℕ) (old new : State) (r : Result X Error) (items : X → List R)
-    → ((row : Row) → IsShownAs f (columns_from 1 (length f.table.columns) row) → IsStoredAs f row)
-    → ((rows : List Row) → old.now.schema ≡ our_schema → Shown text [] old new rows → IsPermutation (map (columns_from 1 (length f.table.columns)) (old.now.trees f.table.tree)) rows)
-    → ((rows : List Row) → IsOurs old.now → Shown text [] old new rows → IsPermutation (rows_of (tables_in old.now.trees)) (map (λ row. f.row_in (Null ∷ row)) rows))
-    → Looks old new r (λ out. IsShownSo (AreTaken f keep (items out)) text [] old new)
-    → Looks old new r (λ out. AreStoredAs f old.now.trees × (IsTrue keep → AreHeld old.now.trees → IsPermutation (rows_of (tables_in old.now.trees)) (items out)))
-taken_by f rows_of keep text old new r items way sees shows =
-    looks_so old new r (λ out. IsShownSo (AreTaken f keep (items out)) text [] old new) _
-    (λ here out all. (
-      stored_so (IsShownAs f) (IsStoredAs f) (columns_from 1 (length f.table.columns)) (old.now.trees f.table.tree) all.0 way (sees all.0 here.schema all.1) all.2.0,
-      λ kept held.
-          subst (IsPermutation (rows_of (tables_in old.now.trees))) (sym (all.2.1 kept)) (shows all.0 (record { schema = here.schema; held = held }) all.1),
-    ))
-
-pub meta_found : (trees : Trees) (shown : List Row) (r : Result (Option MetaRow) Error) → IsPermutation (map (columns_from 1 7) (trees 0)) shown → OnOk r (All (IsShownAs meta_form) shown)
-    → IfOk r (λ m. map (λ row. meta_in (Null ∷ row)) shown ≡ listed m) → IfOk r (λ m. AreStoredAs meta_form trees × IsMeta trees m)
-meta_found trees shown (Ok m) same all is = (
-  stored_so (IsShownAs meta_form) (IsStoredAs meta_form) (columns_from 1 7) (trees 0) shown (λ r h. h) same (recursion_from_All _ shown all),
+pub meta_found : (number : ℕ) (trees : Trees) (shown : List Row) (r : Result (Option MetaRow) Error) → IsPermutation (map (columns_from 1 7) (trees 0)) shown → OnOk r (All (IsShownAs (meta_form_of number)) shown)
+    → IfOk r (λ m. map (λ row. meta_in (Null ∷ row)) shown ≡ listed m) → IfOk r (λ m. AreStoredAs (meta_form_of number) trees × IsMeta trees m)
+meta_found number trees shown (Ok m) same all is = (
+  stored_so (IsShownAs (meta_form_of number)) (IsStoredAs (meta_form_of number)) (columns_from 1 7) (trees 0) shown (λ r h. h) same (recursion_from_All _ shown all),
   subst (λ xs. IsPermutation xs (listed m)) (twice (trees 0)) (subst (IsPermutation (map (λ row. meta_in (Null ∷ row)) (map (columns_from 1 7) (trees 0)))) is (IsPermutation-map (λ row. meta_in (Null ∷ row)) _ shown same)),
 )
   where
     twice : (rows : List Row) → map (λ row. meta_in (Null ∷ row)) (map (columns_from 1 7) rows) ≡ map meta_in rows
     twice [] = refl
     twice (r ∷ rows) = ap (λ more. meta_in r ∷ more) (twice rows)
-meta_found trees shown (Err e) same all is = tt
+meta_found number trees shown (Err e) same all is = tt
 
 -- a table of which no row is shown has none
 pub none_there : (show : Row → Row) (stored : List Row) → IsPermutation (map show stored) [] → stored ≡ []
@@ -112,6 +89,38 @@ meta_is_found trees m same = go (map meta_in (trees 0)) same (λ x h. one (has_m
     go [] same all = absurd (has_moved (m ∷ []) [] (IsPermutation-sym _ _ same) m (inl refl))
     go (x ∷ xs) same all = last xs (x ∷ []) (λ y h. all y (inr h)) (all x (inl refl))
 
+-- these are the rows of all tables beside `meta`
+abbrev pub AreAll : Trees → List texts.Text → List VectorRow → List LogRow → List BookingRow → List ErrorRow → List CancelledRow → List CancelRow → Type 0
+AreAll t room vector log booking errorlog cancelled cancels =
+    ((AreRowsOf room_form t room × AreRowsOf vector_form t vector) × AreRowsOf log_form t log)
+    × ((AreRowsOf booking_form t booking × AreRowsOf error_form t errorlog) × ((AreRowsOf cancelled_form t cancelled × AreRowsOf cancel_form t cancels) × ⊤))
+
+pub whole_of : (trees : Trees) (t : Tables) → AreHeld trees → IsMeta trees (Some t.meta) → AreAll trees t.room t.vector t.log t.booking t.errorlog t.cancelled t.cancels → t ≡ tables_in trees
+unfolding tables_in
+whole_of trees t held is all =
+    let meta = sym (meta_is_found trees t.meta is) in λ i. record {
+      meta = meta i;
+      room = all.0.0.0 held.room i;
+      vector = all.0.0.1 held.vector i;
+      log = all.0.1 held.log i;
+      booking = all.1.0.0 held.booking i;
+      errorlog = all.1.0.1 held.errorlog i;
+      cancelled = all.1.1.0.0 held.cancelled i;
+      cancels = all.1.1.0.1 held.cancels i;
+    }
+
+pub meta_in_tables : (trees : Trees) (m : MetaRow) → m ≡ first_meta (in_order meta_form (trees 0)) → m ≡ (tables_in trees).meta
+unfolding tables_in
+meta_in_tables trees m is = is
+
+pub rooms_of : (trees : Trees) (rooms : List texts.Text) → IsHeld room_form (trees 2) → AreRowsOf room_form trees rooms → rooms ≡ (tables_in trees).room
+unfolding tables_in
+rooms_of trees rooms held all = all held
+
+pub vector_of : (trees : Trees) (rows : List VectorRow) → IsHeld vector_form (trees 4) → AreRowsOf vector_form trees rows → rows ≡ (tables_in trees).vector
+unfolding tables_in
+vector_of trees rows held all = all held
+
 -- ---- a row that obeys the rules of its table has a cell for each column
 
 shifted : (n at : ℕ) (x : Value) (r : Row) → columns_from (at + 1) n (x ∷ r) ≡ columns_from at n r
@@ -121,7 +130,7 @@ shifted (suc n) at x r =
     let more = shifted n (at + 1) x r in
     λ i. first i ∷ more i
 
-spelled : (r : Row) → r ≡ columns_from 0 (length r) r
+pub spelled : (r : Row) → r ≡ columns_from 0 (length r) r
 spelled [] = refl
 spelled (x ∷ r) = ap (λ more. x ∷ more) (spelled r ∙ sym (shifted (length r) 0 x r))
 
@@ -262,76 +271,48 @@ vector_ruled = record {
 }
 
 -- a key of two numbers
-pub ids_agree : (at bt : ℕ) (r s : Row) (x y : Id) → column r at ≡ Int (pos x.server) → column s at ≡ Int (pos y.server) → column r bt ≡ Int (pos x.n) → column s bt ≡ Int (pos y.n) → x ≡ y
+ids_agree : (at bt : ℕ) (r s : Row) (x y : Id) → column r at ≡ Int (pos x.server) → column s at ≡ Int (pos y.server) → column r bt ≡ Int (pos x.n) → column s bt ≡ Int (pos y.n) → x ≡ y
     → (equal Binary (column r at) (column s at) && (equal Binary (column r bt) (column s bt) && true)) ≡ true
 ids_agree at bt r s x y a b c d same =
     and_from _ _ (equal_numbers (column r at) (column s at) x.server y.server a b (ap (λ (i : Id). i.server) same))
     (and_from _ _ (equal_numbers (column r bt) (column s bt) x.n y.n c d (ap (λ (i : Id). i.n) same)) refl)
 
+pub ruled_by_ids : {under : Schema} {R : Type 0} (f : Form R Id) (index : Index) (at bt : ℕ) → Has under.tables f.table → Has under.indexes index → f.table.key ≡ None → list_all (λ (c : Column). c.not_null) f.table.columns ≡ true → guards index f.table ≡ true
+    → ((r s : Row) → agree index.order index.columns r index.columns s ≡ (equal Binary (column r at) (column s at) && (equal Binary (column r bt) (column s bt) && true)))
+    → ((x : R) (v : Value) → column (v ∷ f.cells x) at ≡ Int (pos (f.key x).server)) → ((x : R) (v : Value) → column (v ∷ f.cells x) bt ≡ Int (pos (f.key x).n)) → Ruled under f
+ruled_by_ids f index at bt listed indexed keyless required guarding agrees server n = record {
+  listed = listed;
+  keyless = keyless;
+  required = required;
+  index = index;
+  indexed = indexed;
+  guarding = guarding;
+  agrees = λ r s a b same.
+      let rid = Int (id_in (rowid r)) in
+      let sid = Int (id_in (rowid s)) in
+      agrees r s
+      ∙ ids_agree at bt r s (f.key (f.row_in r)) (f.key (f.row_in s)) (ap (λ x. column x at) a ∙ server (f.row_in r) rid) (ap (λ x. column x at) b ∙ server (f.row_in s) sid) (ap (λ x. column x bt) a ∙ n (f.row_in r) rid) (ap (λ x. column x bt) b ∙ n (f.row_in s) sid) same;
+}
+
 booking_ruled : Ruled our_schema booking_form
 unfolding first_key
-booking_ruled = record {
-  listed = inr (inr (inr (inr (inr (inl refl)))));
-  keyless = refl;
-  required = refl;
-  index = _;
-  indexed = inr (inr (inr (inr (inr (inl refl)))));
-  guarding = refl;
-  agrees = λ r s a b same.
-      ids_agree 5 6 r s (booking_form.key (booking_form.row_in r)) (booking_form.key (booking_form.row_in s)) (ap (λ x. column x 5) a) (ap (λ x. column x 5) b) (ap (λ x. column x 6) a) (ap (λ x. column x 6) b) same;
-}
+booking_ruled = ruled_by_ids booking_form _ 5 6 (inr (inr (inr (inr (inr (inl refl)))))) (inr (inr (inr (inr (inr (inl refl)))))) refl refl refl (λ r s. refl) (λ x v. refl) (λ x v. refl)
 
 error_ruled : Ruled our_schema error_form
 unfolding first_key
-error_ruled = record {
-  listed = inr (inr (inr (inr (inr (inr (inl refl))))));
-  keyless = refl;
-  required = refl;
-  index = _;
-  indexed = inr (inr (inr (inr (inr (inr (inl refl))))));
-  guarding = refl;
-  agrees = λ r s a b same.
-      ids_agree 5 6 r s (error_form.key (error_form.row_in r)) (error_form.key (error_form.row_in s)) (ap (λ x. column x 5) a) (ap (λ x. column x 5) b) (ap (λ x. column x 6) a) (ap (λ x. column x 6) b) same;
-}
+error_ruled = ruled_by_ids error_form _ 5 6 (inr (inr (inr (inr (inr (inr (inl refl))))))) (inr (inr (inr (inr (inr (inr (inl refl))))))) refl refl refl (λ r s. refl) (λ x v. refl) (λ x v. refl)
 
 log_ruled : Ruled our_schema log_form
 unfolding first_key
-log_ruled = record {
-  listed = inr (inr (inr (inr (inr (inr (inr (inl refl)))))));
-  keyless = refl;
-  required = refl;
-  index = _;
-  indexed = inr (inr (inr (inr (inr (inr (inr (inl refl)))))));
-  guarding = refl;
-  agrees = λ r s a b same.
-      ids_agree 1 2 r s (log_form.key (log_form.row_in r)) (log_form.key (log_form.row_in s)) (ap (λ x. column x 1) a) (ap (λ x. column x 1) b) (ap (λ x. column x 2) a) (ap (λ x. column x 2) b) same;
-}
+log_ruled = ruled_by_ids log_form _ 1 2 (inr (inr (inr (inr (inr (inr (inr (inl refl)))))))) (inr (inr (inr (inr (inr (inr (inr (inl refl)))))))) refl refl refl (λ r s. refl) (λ x v. refl) (λ x v. refl)
 
 cancelled_ruled : Ruled our_schema cancelled_form
 unfolding first_key
-cancelled_ruled = record {
-  listed = inr (inr (inr (inr (inr (inr (inr (inr (inl refl))))))));
-  keyless = refl;
-  required = refl;
-  index = _;
-  indexed = inr (inr (inr (inr (inr (inr (inr (inr (inl refl))))))));
-  guarding = refl;
-  agrees = λ r s a b same.
-      ids_agree 5 6 r s (cancelled_form.key (cancelled_form.row_in r)) (cancelled_form.key (cancelled_form.row_in s)) (ap (λ x. column x 5) a) (ap (λ x. column x 5) b) (ap (λ x. column x 6) a) (ap (λ x. column x 6) b) same;
-}
+cancelled_ruled = ruled_by_ids cancelled_form _ 5 6 (inr (inr (inr (inr (inr (inr (inr (inr (inl refl))))))))) (inr (inr (inr (inr (inr (inr (inr (inr (inl refl))))))))) refl refl refl (λ r s. refl) (λ x v. refl) (λ x v. refl)
 
 cancel_ruled : Ruled our_schema cancel_form
 unfolding first_key
-cancel_ruled = record {
-  listed = inr (inr (inr (inr (inr (inr (inr (inr (inr (inl refl)))))))));
-  keyless = refl;
-  required = refl;
-  index = _;
-  indexed = inr (inr (inr (inr (inr (inr (inr (inr (inr (inl refl)))))))));
-  guarding = refl;
-  agrees = λ r s a b same.
-      ids_agree 1 2 r s (cancel_form.key (cancel_form.row_in r)) (cancel_form.key (cancel_form.row_in s)) (ap (λ x. column x 1) a) (ap (λ x. column x 1) b) (ap (λ x. column x 2) a) (ap (λ x. column x 2) b) same;
-}
+cancel_ruled = ruled_by_ids cancel_form _ 1 2 (inr (inr (inr (inr (inr (inr (inr (inr (inr (inl refl)))))))))) (inr (inr (inr (inr (inr (inr (inr (inr (inr (inl refl)))))))))) refl refl refl (λ r s. refl) (λ x v. refl) (λ x v. refl)
 
 -- ---- all of them
 

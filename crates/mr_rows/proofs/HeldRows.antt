@@ -1,18 +1,15 @@
 -- The rows that a keeper holds for a replica are rows of ours, and `meta` has one.
-use Rattle.std.proofs.Common.{◌≡◌, inl, inr, ℕ, ℤ, List, [], ◌∷◌, length, map, IsTrue, refl, sym, ap, subst, ◌∙◌}
+use Rattle.std.proofs.Common.{◌≡◌, ℕ, ℤ, List, [], ◌∷◌, length, map, IsTrue, refl, sym, ap, subst, ◌∙◌}
 use Rattle.std.specs.List.{AllByRecursion}
 use Rattle.sqlite_value.specs.declared.value.Value.TheVariants.{Int}
 use Rattle.sqlite_value.specs.Order.{Row}
 use Rattle.sqlite_trees.specs.Tree.{Trees, rowid}
 use Rattle.sqlite_schema.specs.declared.schema.Schema.{Schema}
 use Rattle.sqlite_rules.specs.Edit.{id_in}
-use Rattle.sqlite_rules.specs.Lists as stored
-use Rattle.sqlite_rules.proofs.ListLemmas.{all_from}
-use Rattle.sqlite_rules.proofs.ListLemmas as stored_rows
-use Rattle.mr_model.specs.Dropped.{Has}
+use Rattle.sqlite_trees.proofs.ListLemmas.{all_both, all_from_map}
 use Rattle.mr_model.specs.Replica.{Replica}
 use Rattle.mr_model.specs.Tables.{MetaRow, ActionCells, OfMeeting, OfCancel, LogRow, Stands}
-use Rattle.mr_model.proofs.Members.{all_has}
+use Rattle.mr_model.proofs.Members.{all_has, has_all}
 use Rattle.mr_rows.specs.Form.{Form, meta_form, room_form, vector_form, log_form, booking_form, error_form, cancelled_form, cancel_form}
 use Rattle.mr_rows.specs.Database.{IsRowOf, IsHeld, AreHeld, first_meta, in_order, tables_in}
 use Rattle.mr_rows.specs.Shown.{columns_from, IsStoredAs, AreOurRows}
@@ -37,18 +34,13 @@ log_spelled w id = go w.action
 pub row_stored : {R K : Type 0} (f : Form R K) (r : Row) → IsSpelled f → IsRowOf f r → IsTrue (f.within (f.row_in r)) → IsStoredAs f r
 row_stored f r spelled is fits = (spelled (f.row_in r) (id_in (rowid r)) ∙ ap (columns_from 1 (length f.table.columns)) (sym is), fits)
 
-among : {R K : Type 0} (f : Form R K) (rows : List Row) (r : Row) → stored.Has rows r → Has (f.row_in r) (map f.row_in rows)
-among f [] r here = absurd here
-among f (x ∷ rows) r (inl same) = inl (ap f.row_in same)
-among f (x ∷ rows) r (inr here) = inr (among f rows r here)
-
 -- a table whose rows, in order, are within the limits
 pub table_stored : {under : Schema} {R K : Type 0} (f : Form R K) (facts : Facts under f) (rows : List Row) → IsSpelled f → IsHeld f rows → AllByRecursion (λ x. IsTrue (f.within x)) (in_order f rows)
     → AllByRecursion (IsStoredAs f) rows
-table_stored f facts rows spelled held fit =
-    all_from (IsStoredAs f) rows
-    (λ r here. row_stored f r spelled (stored_rows.all_has (IsRowOf f) rows r held.whole here)
-    (all_has (λ x. IsTrue (f.within x)) (f.row_in r) (in_order f rows) fit (has_ordered f.before f.key facts.order (map f.row_in rows) (plain_apart f facts rows held) (f.row_in r) (among f rows r here))))
+table_stored {R = R} f facts rows spelled held fit =
+    let within = λ (x : R). IsTrue (f.within x) in
+    let each = has_all within (map f.row_in rows) (λ x here. all_has within x (in_order f rows) fit (has_ordered f.before f.key facts.order (map f.row_in rows) (plain_apart f facts rows held) x here)) in
+    all_both (IsRowOf f) (λ r. within (f.row_in r)) (IsStoredAs f) (λ r is fits. row_stored f r spelled is fits) rows held.whole (all_from_map within f.row_in rows each)
 
 -- where all rows have one key, and the row that stands for none isn't within the limits, there is one
 pub meta_stored : (f : Form MetaRow ℕ) (rows : List Row) → IsSpelled f → ((x y : MetaRow) → f.key x ≡ f.key y) → ¬ IsTrue (f.within (first_meta [])) → IsHeld f rows → IsTrue (f.within (first_meta (in_order f rows)))

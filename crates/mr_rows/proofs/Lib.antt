@@ -18,7 +18,6 @@ pub mod CauseLemmas
 pub mod SureTexts
 pub mod AskedTexts
 pub mod FirstLemmas
-pub mod SelectLemmas
-pub mod SortLemmas
 pub mod FoundLemmas
+pub mod RowOrder
 pub mod HeldRows

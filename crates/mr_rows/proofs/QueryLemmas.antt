@@ -1,6 +1,5 @@
 -- A query that is read leaves all as it was.
 use Rattle.std.proofs.Common.{◌≡◌, ◌⊎◌, inl, inr, ℕ, List, Ok, Err, Option, None, Some, Result, IfOk, IfErr, OnOk, IsTrue, refl, sym, ap, subst, ◌∙◌, arith}
-use Rattle.std.specs.Prelude.{⊤}
 use Rattle.sqlite_value.specs.Order.{Row}
 use Rattle.sqlite_trees.specs.Tree.{Trees}
 use Rattle.sqlite.specs.declared.error.Error.{Error}
@@ -11,10 +10,9 @@ use Rattle.sqlite.specs.Listing.{understood}
 use Rattle.sqlite.specs.State.{State, HasCleanDisk, IsUnchanged, IsRolledBack, Shown, ShowsRows, FailsToShow, FailsToQuery, IsNotRun, Survives, CommitsShowing}
 use Rattle.sqlite.proofs.StateLemmas.{survives_weaker, survives_then}
 use Rattle.sqlite.proofs.Callers.{IsPlain, never_commits}
-use Rattle.mr_rows.specs.Schema.{our_schema}
 use Rattle.sqlite.specs.Effect.{Database}
 use Rattle.mr_rows.specs.Database.{IsKept, IsOurs}
-use Rattle.mr_rows.specs.Reads.{ReadsKept, IsPlacedIn, IsPlaced, Looks, ReadsWhere, IsInUse, ReadsInUse}
+use Rattle.mr_rows.specs.Reads.{ReadsKept, IsPlacedIn, IsPlaced, LooksIn, ReadsWhere, IsInUse, ReadsInUse}
 
 pub placed : (s : State) → IsKept s → IsPlaced s
 placed s kept = record { schema = kept.ours.schema; settled = kept.settled }
@@ -79,24 +77,16 @@ module _ {under : Schema} (sql : List ℕ) (params : Row) (old new : State) (pla
       → Survives old new (CommitsShowing sql params old) → ReadsWhere Known old new r (λ x. Shown sql params old new (items x))
   asked_where items r ok err survives = (commits_none survives, λ clean now. kept_by items r (ok clean) (err clean) now, λ clean known. (stays_open items r (ok clean) known, ok clean))
 
-module _ (sql : List ℕ) (params : Row) (old new : State) (plain : IsPlain (understood our_schema sql)) where
-  pub asked : {X : Type 0} (items : X → List Row) (r : Result X Error) → (HasCleanDisk new → IfOk r (λ x. Shown sql params old new (items x))) → (HasCleanDisk new → IfErr r (FailsToQuery sql params old new))
-      → Survives old new (CommitsShowing sql params old) → ReadsKept old new r (λ x. Shown sql params old new (items x))
-  asked items r ok err survives = asked_where sql params old new plain IsKept (placed old) items r ok err survives
-
-  pub looked : {X : Type 0} (items : X → List Row) (r : Result X Error) → (HasCleanDisk new → IfOk r (λ x. Shown sql params old new (items x))) → (HasCleanDisk new → IfErr r (FailsToQuery sql params old new))
-      → Survives old new (CommitsShowing sql params old) → Looks old new r (λ x. Shown sql params old new (items x))
-  looked items r ok err survives = asked_where sql params old new plain IsPlaced (λ here. here) items r ok err survives
+module _ (sql : List ℕ) (params : Row) (old new : State) {under : Schema} (plain : IsPlain (understood under sql)) where
+  pub looked_in : {X : Type 0} (items : X → List Row) (r : Result X Error) → (HasCleanDisk new → IfOk r (λ x. Shown sql params old new (items x))) → (HasCleanDisk new → IfErr r (FailsToQuery sql params old new))
+      → Survives old new (CommitsShowing sql params old) → LooksIn under old new r (λ x. Shown sql params old new (items x))
+  looked_in items r ok err survives = asked_where sql params old new plain (IsPlacedIn under) (λ here. here) items r ok err survives
 
 -- ---- reads, one after another
 
 pub told_so : {X : Type 0} (r : Result X Error) (P Q : X → Type 0) → ((x : X) → P x → Q x) → IfOk r P → IfOk r Q
 told_so (Ok x) P Q way h = way x h
 told_so (Err e) P Q way h = tt
-
-pub any_told : {X : Type 0} (r : Result X Error) → IfOk r (λ _. ⊤)
-any_told (Ok x) = tt
-any_told (Err e) = tt
 
 pub told_two : {X : Type 0} (r : Result X Error) (P Q R : X → Type 0) → ((x : X) → P x → Q x → R x) → IfOk r P → IfOk r Q → IfOk r R
 told_two (Ok x) P Q R way h k = way x h k
@@ -151,11 +141,6 @@ pub reads_then : {X Y : Type 0} (a b c : State) (x : X) (P : X → Type 0) (r : 
     → (IsKept a → (y : Y) → P x → Q a.now y → R y) → ReadsKept a b (Ok x) P → ReadsKept b c r (Q b.now) → ReadsKept a c r R
 reads_then a b c = then_where IsKept IsKept a b c (λ kept now same. still_kept a b kept same)
 
--- after an answer the database is in use
-pub reads_on : {X Y : Type 0} (a b c : State) (x : X) (P : X → Type 0) (r : Result Y Error) (Q : Database → Y → Type 0) (R : Y → Type 0)
-    → (IsKept a → (y : Y) → P x → Q a.now y → R y) → ReadsKept a b (Ok x) P → ReadsInUse b c r (Q b.now) → ReadsKept a c r R
-reads_on a b c = then_where IsKept IsInUse a b c (λ kept now same. (still_kept a b kept same, now))
-
 -- of one in use
 
 pub in_use : {X : Type 0} (old new : State) (r : Result X Error) (P : X → Type 0) → ReadsKept old new r P → ReadsInUse old new r P
@@ -165,15 +150,8 @@ in_use old new r P h = (
   λ clean held. h.2 clean held.0,
 )
 
-pub uses_so : {X : Type 0} (old new : State) (r : Result X Error) (P Q : X → Type 0) → (IsInUse old → (x : X) → P x → Q x) → ReadsInUse old new r P → ReadsInUse old new r Q
-uses_so = told_where IsInUse
-
 pub uses_made : {X Y : Type 0} (old new : State) (x : X) (P : X → Type 0) (r : Result Y Error) (Q : Y → Type 0) → (IsInUse old → P x → IfOk r Q) → ReadsInUse old new (Ok x) P → ReadsInUse old new r Q
 uses_made = made_where IsInUse
-
-pub uses_then : {X Y : Type 0} (a b c : State) (x : X) (P : X → Type 0) (r : Result Y Error) (Q : Database → Y → Type 0) (R : Y → Type 0)
-    → (IsInUse a → (y : Y) → P x → Q a.now y → R y) → ReadsInUse a b (Ok x) P → ReadsInUse b c r (Q b.now) → ReadsInUse a c r R
-uses_then a b c = then_where IsInUse IsInUse a b c (λ held now same. (still_kept a b held.0 same, now))
 
 -- nothing was done
 pub survives_itself : (a : State) (P : Trees → Type 0) → Survives a a P
@@ -186,22 +164,19 @@ survives_itself a P = record {
   crash = λ clean db left. inl left;
 }
 
-pub uses_none : {X : Type 0} (a : State) (x : X) (P : X → Type 0) → P x → ReadsInUse a a (Ok x) P
-uses_none a x P h = (survives_itself a _, λ clean now. (now, λ held. (refl, refl)), λ clean held. (held.1, h))
-
 -- ---- looks, one after another
 
-pub looks_so : {X : Type 0} (old new : State) (r : Result X Error) (P Q : X → Type 0) → (IsPlaced old → (x : X) → P x → Q x) → Looks old new r P → Looks old new r Q
-looks_so = told_where IsPlaced
+pub looks_so : {X : Type 0} {under : Schema} (old new : State) (r : Result X Error) (P Q : X → Type 0) → (IsPlacedIn under old → (x : X) → P x → Q x) → LooksIn under old new r P → LooksIn under old new r Q
+looks_so {X} {under} = told_where (IsPlacedIn under)
 
 -- what is made of the answer
-pub looks_made : {X Y : Type 0} (old new : State) (x : X) (P : X → Type 0) (r : Result Y Error) (Q : Y → Type 0) → (IsPlaced old → P x → IfOk r Q) → Looks old new (Ok x) P → Looks old new r Q
-looks_made = made_where IsPlaced
+pub looks_made : {X Y : Type 0} {under : Schema} (old new : State) (x : X) (P : X → Type 0) (r : Result Y Error) (Q : Y → Type 0) → (IsPlacedIn under old → P x → IfOk r Q) → LooksIn under old new (Ok x) P → LooksIn under old new r Q
+looks_made {X} {Y} {under} = made_where (IsPlacedIn under)
 
 -- a second look finds what the first found
-pub looks_then : {X Y : Type 0} (a b c : State) (x : X) (P : X → Type 0) (r : Result Y Error) (Q : Database → Y → Type 0) (R : Y → Type 0)
-    → (IsPlaced a → (y : Y) → P x → Q a.now y → R y) → Looks a b (Ok x) P → Looks b c r (Q b.now) → Looks a c r R
-looks_then a b c = then_where IsPlaced IsPlaced a b c still_placed
+pub looks_then : {X Y : Type 0} {under : Schema} (a b c : State) (x : X) (P : X → Type 0) (r : Result Y Error) (Q : Database → Y → Type 0) (R : Y → Type 0)
+    → (IsPlacedIn under a → (y : Y) → P x → Q a.now y → R y) → LooksIn under a b (Ok x) P → LooksIn under b c r (Q b.now) → LooksIn under a c r R
+looks_then {X} {Y} {under} a b c = then_where (IsPlacedIn under) (IsPlacedIn under) a b c still_placed
   where
-    still_placed : IsPlaced a → IsTrue b.is_open → (b.now ≡ a.now) × (b.committed ≡ a.committed) → IsPlaced b
+    still_placed : IsPlacedIn under a → IsTrue b.is_open → (b.now ≡ a.now) × (b.committed ≡ a.committed) → IsPlacedIn under b
     still_placed here now same = record { schema = ap (λ (d : Database). d.schema) same.0 ∙ here.schema; settled = same.0 ∙ here.settled ∙ sym same.1 }

@@ -1,12 +1,13 @@
 -- Rows in the order of their keys, made of rows in any order, no two of which have one key.
-use Rattle.std.proofs.Common.{◌≡◌, refl, sym, ap, ◌∙◌, subst, Bool, true, false, not, cond, List, [], ◌∷◌, ◌++◌, filter, ◌⊎◌, inl, inr}
+use Rattle.std.proofs.Common.{◌≡◌, refl, sym, ap, ◌∙◌, subst, Bool, true, false, not, cond, List, [], ◌∷◌, ◌++◌, filter, ◌⊎◌, ⊎_elim, inl, inr}
 use Rattle.std.specs.List.Sorted.{IsPermutation}
 use Rattle.std.proofs.lemmas.List.{append-nil}
-use Rattle.std.proofs.lemmas.List.Sorted.{IsPermutation-refl, IsPermutation-trans, IsPermutation-sym, IsPermutation-cons, IsPermutation-to_front, IsPermutation-append_left, IsPermutation-append_right}
+use Rattle.std.proofs.lemmas.List.Sorted.{IsPermutation-refl, IsPermutation-trans, IsPermutation-sym, IsPermutation-cons, IsPermutation-middle, IsPermutation-append_right}
 use Rattle.mr_model.specs.Dropped.{Has}
 use Rattle.mr_model.proofs.Members.{Sorted, sorted_filter, has_filter, filter_has, all_has}
 use Rattle.mr_tables.specs.Change.{put, put_all}
-use Rattle.mr_tables.proofs.Putting.{IsOrder, InOrder, Lacks, OneAKey, put_has, has_put, put_in_order, put_all_in_order, put_all_has, new_has_put_all, in_order_same}
+use Rattle.mr_tables.specs.TableOrders.{IsOrder, InOrder}
+use Rattle.mr_tables.proofs.Putting.{Lacks, OneAKey, put_has, has_put, put_in_order, put_all_in_order, put_all_has, new_has_put_all, in_order_same}
 
 module _ {R K : Type 0} (before : K → K → Bool) (key : R → K) where
   -- no two of them have one key
@@ -33,11 +34,7 @@ module _ {R K : Type 0} (before : K → K → Bool) (key : R → K) where
     ordered_in_order xs = put_all_in_order before key o xs [] tt
 
     pub ordered_has : (xs : List R) (row : R) → Has row (ordered xs) → Has row xs
-    ordered_has xs row h = go (put_all_has before key o row xs [] tt h)
-      where
-        go : Has row xs ⊎ (⊥ × Lacks key (key row) xs) → Has row xs
-        go (inl g) = g
-        go (inr p) = absurd p.0
+    ordered_has xs row h = ⊎_elim (λ g. g) (λ p. absurd p.0) (put_all_has before key o row xs [] tt h)
 
     pub has_ordered : (xs : List R) → Apart xs → (row : R) → Has row xs → Has row (ordered xs)
     has_ordered xs apart row = new_has_put_all before key o row xs [] (one_apart xs apart)
@@ -78,54 +75,23 @@ module _ {R K : Type 0} (before : K → K → Bool) (key : R → K) where
     put_more x [] lacks = IsPermutation-refl (x ∷ [])
     put_more x (y ∷ ys) lacks = go (before (key x) (key y)) refl (before (key y) (key x)) refl (put_more x ys (λ z h. lacks z (inr h)))
       where
-        swapped : IsPermutation (x ∷ y ∷ ys) (y ∷ x ∷ ys)
-        swapped = IsPermutation-append_left ys (x ∷ y ∷ []) (y ∷ x ∷ []) (IsPermutation-to_front (x ∷ []) y)
-
         go : (b : Bool) → before (key x) (key y) ≡ b → (c : Bool) → before (key y) (key x) ≡ c → IsPermutation (x ∷ ys) (put before key x ys)
             → IsPermutation (x ∷ y ∷ ys) (cond b (x ∷ y ∷ ys) (cond c (y ∷ put before key x ys) (x ∷ ys)))
         go true b c d ih = IsPermutation-refl (x ∷ y ∷ ys)
-        go false b true d ih = IsPermutation-trans _ _ _ swapped (IsPermutation-cons y (x ∷ ys) (put before key x ys) ih)
+        go false b true d ih = IsPermutation-trans _ _ _ (IsPermutation-middle (x ∷ []) y ys) (IsPermutation-cons y (x ∷ ys) (put before key x ys) ih)
         go false b false d ih = absurd (lacks y (inl refl) (sym (o.total (key x) (key y) b d)))
 
-    put_all_more : (xs rows : List R) → Apart xs → ((x y : R) → Has x xs → Has y rows → key y ≡ key x → ⊥) → IsPermutation (xs ++ rows) (put_all before key xs rows)
-    put_all_more [] rows apart new = IsPermutation-refl rows
-    put_all_more (x ∷ xs) rows apart new =
-        IsPermutation-trans _ _ _ first
+    put_all_more : (xs rows : List R) → Apart xs → InOrder before key rows → ((x y : R) → Has x xs → Has y rows → key y ≡ key x → ⊥) → IsPermutation (xs ++ rows) (put_all before key xs rows)
+    put_all_more [] rows apart up new = IsPermutation-refl rows
+    put_all_more (x ∷ xs) rows apart up new =
+        IsPermutation-trans _ _ _ (IsPermutation-sym _ _ (IsPermutation-middle xs x rows))
         (IsPermutation-trans _ _ _ (IsPermutation-append_right xs (x ∷ rows) (put before key x rows) (put_more x rows (λ y h. new x y (inl refl) h)))
-        (put_all_more xs (put before key x rows) apart.1 later))
+        (put_all_more xs (put before key x rows) apart.1 (put_in_order before key o x rows up) (λ z y h g k. go z y h k (put_has before key o y x rows up g))))
       where
-        first : IsPermutation (x ∷ (xs ++ rows)) (xs ++ x ∷ rows)
-        first =
-            subst (IsPermutation (x ∷ (xs ++ rows))) (shift xs)
-            (IsPermutation-append_left rows (x ∷ xs) (xs ++ x ∷ []) (IsPermutation-sym _ _ (IsPermutation-to_front xs x)))
-          where
-            shift : (zs : List R) → (zs ++ x ∷ []) ++ rows ≡ zs ++ x ∷ rows
-            shift [] = refl
-            shift (z ∷ zs) = ap (λ ws. z ∷ ws) (shift zs)
-
-        later : (z y : R) → Has z xs → Has y (put before key x rows) → key y ≡ key z → ⊥
-        later z y h g k = go (any_put y rows g)
-          where
-            any_put : (y : R) (rows : List R) → Has y (put before key x rows) → (y ≡ x) ⊎ Has y rows
-            any_put y [] (inl e) = inl e
-            any_put y [] (inr h) = absurd h
-            any_put y (w ∷ ws) h = pick (before (key x) (key w)) (before (key w) (key x)) h (any_put y ws)
-              where
-                under : (y ≡ x) ⊎ Has y ws → (y ≡ x) ⊎ Has y (w ∷ ws)
-                under (inl e) = inl e
-                under (inr h) = inr (inr h)
-
-                pick : (b c : Bool) → Has y (cond b (x ∷ w ∷ ws) (cond c (w ∷ put before key x ws) (x ∷ ws))) → (Has y (put before key x ws) → (y ≡ x) ⊎ Has y ws) → (y ≡ x) ⊎ Has y (w ∷ ws)
-                pick true c h ih = h
-                pick false true (inl e) ih = inr (inl e)
-                pick false true (inr h) ih = under (ih h)
-                pick false false (inl e) ih = inl e
-                pick false false (inr h) ih = inr (inr h)
-
-            go : (y ≡ x) ⊎ Has y rows → ⊥
-            go (inl e) = all_has (λ w. key x ≡ key w → ⊥) z xs apart.0 h (ap key (sym e) ∙ k)
-            go (inr a) = new z y (inr h) a k
+        go : (z y : R) → Has z xs → key y ≡ key z → (y ≡ x) ⊎ (Has y rows × (key y ≡ key x → ⊥)) → ⊥
+        go z y h k (inl e) = all_has (λ w. key x ≡ key w → ⊥) z xs apart.0 h (ap key (sym e) ∙ k)
+        go z y h k (inr a) = new z y (inr h) a.0 k
 
     -- each row is there once
     pub ordered_same : (xs : List R) → Apart xs → IsPermutation xs (ordered xs)
-    ordered_same xs apart = subst (λ ys. IsPermutation ys (ordered xs)) (append-nil xs) (put_all_more xs [] apart (λ x y h g k. absurd g))
+    ordered_same xs apart = subst (λ ys. IsPermutation ys (ordered xs)) (append-nil xs) (put_all_more xs [] apart tt (λ x y h g k. absurd g))

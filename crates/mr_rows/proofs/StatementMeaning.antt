@@ -1,5 +1,5 @@
 -- What the statements mean, first of all under our schema.
-use Rattle.std.proofs.Common.{◌≡◌, ℕ, List, [], ◌∷◌, codes, false, refl}
+use Rattle.std.proofs.Common.{◌≡◌, ℕ, List, [], ◌∷◌, length, map, codes, false, refl}
 use Rattle.sqlite_value.specs.declared.value.Value.TheVariants.{Null}
 use Rattle.sqlite_sql.specs.Term.{Term, lit, col, op2}
 use Rattle.sqlite_sql.specs.declared.ops.BinaryOp.TheVariants.{Compare}
@@ -8,14 +8,17 @@ use Rattle.sqlite_tied.specs.Compute.{everything}
 use Rattle.sqlite_schema.specs.declared.command.Command.{Command}
 use Rattle.sqlite_schema.specs.declared.command.Conflict.TheVariants.{Replace}
 use Rattle.sqlite_schema.specs.declared.program.Program.{Program}
+use Rattle.sqlite_schema.specs.declared.schema.Column.{Column}
 use Rattle.sqlite_schema.specs.declared.schema.Schema.{Schema}
+use Rattle.sqlite_schema.specs.declared.schema.Table.{Table}
 use Rattle.sqlite.specs.Collation.TheVariants.{Binary}
 use Rattle.sqlite.specs.Listing.{understood, reads_listing}
 use Rattle.sqlite.specs.Source.TheVariants.{Values}
 use Rattle.sqlite.specs.Command.TheVariants.{InsertOr, Delete, Select}
 use Rattle.sqlite.proofs.Callers.{IsPlain, command_of}
-use Rattle.mr_rows.specs.Meaning.{query_of}
+use Rattle.mr_rows.specs.Meaning.{query_of, columns_at}
 use Rattle.mr_rows.specs.Schema.{our_schema}
+use Rattle.mr_rows.specs.Form.{booking_form, error_form, cancelled_form, cancel_form}
 
 -- under this schema the text means the command, and shows no rows of its own
 abbrev pub MeansIn : Schema → List ℕ → Command → Type 0
@@ -36,6 +39,13 @@ MeansQuery text command = MeansQueryIn our_schema text command
 abbrev pub program_of : ℕ → List Term → List Term → Program
 program_of tree tests project = record { lets = []; body = query_of tree tests project }
 
+abbrev pub names_of : Table → List (List ℕ)
+names_of t = map (λ (c : Column). c.name) t.columns
+
+-- the rows of a table that pass the tests are shown, with all columns
+abbrev pub asks : Table → List Term → Command
+asks t tests = Select (program_of t.tree tests (columns_at 1 (length t.columns))) (names_of t)
+
 abbrev pub same : Term → Term → Term
 same a b = op2 (Compare Eq Binary) a b
 
@@ -54,19 +64,6 @@ put_meta_is = (refl, (refl, refl))
 abbrev pub meta_key_tests : List Term
 meta_key_tests = same (col 1 1) (col 0 0) ∷ []
 
-abbrev pub meta_columns : List Term
-meta_columns = col 1 1 ∷ col 1 2 ∷ col 1 3 ∷ col 1 4 ∷ col 1 5 ∷ col 1 6 ∷ col 1 7 ∷ []
-
-abbrev pub meta_names : List (List ℕ)
-meta_names = codes "one" ∷ codes "schema" ∷ codes "server" ∷ codes "prim" ∷ codes "commits" ∷ codes "dropped" ∷ codes "clock" ∷ []
-
-abbrev pub all_meta_text : List ℕ
-all_meta_text = codes "SELECT one, schema, server, prim, commits, dropped, clock FROM meta"
-
-pub all_meta_is : MeansQuery all_meta_text (Select (program_of 0 [] meta_columns) meta_names)
-unfolding understood everything
-all_meta_is = ((refl, (refl, refl)), refl)
-
 -- ---- room
 
 abbrev pub put_room_text : List ℕ
@@ -82,19 +79,6 @@ put_room_is = (refl, (refl, refl))
 abbrev pub room_key_tests : List Term
 room_key_tests = same (col 1 1) (col 0 0) ∷ []
 
-abbrev pub room_columns : List Term
-room_columns = col 1 1 ∷ []
-
-abbrev pub room_names : List (List ℕ)
-room_names = codes "name" ∷ []
-
-abbrev pub all_room_text : List ℕ
-all_room_text = codes "SELECT name FROM room"
-
-pub all_room_is : MeansQuery all_room_text (Select (program_of 2 [] room_columns) room_names)
-unfolding understood everything
-all_room_is = ((refl, (refl, refl)), refl)
-
 -- ---- vector
 
 abbrev pub put_vector_text : List ℕ
@@ -109,41 +93,6 @@ put_vector_is = (refl, (refl, refl))
 
 abbrev pub vector_key_tests : List Term
 vector_key_tests = same (col 1 1) (col 0 0) ∷ []
-
-abbrev pub vector_columns : List Term
-vector_columns = col 1 1 ∷ col 1 2 ∷ col 1 3 ∷ col 1 4 ∷ []
-
-abbrev pub vector_names : List (List ℕ)
-vector_names = codes "server" ∷ codes "n" ∷ codes "tm" ∷ codes "committed" ∷ []
-
-abbrev pub all_vector_text : List ℕ
-all_vector_text = codes "SELECT server, n, tm, committed FROM vector"
-
-pub all_vector_is : MeansQuery all_vector_text (Select (program_of 4 [] vector_columns) vector_names)
-unfolding understood everything
-all_vector_is = ((refl, (refl, refl)), refl)
-
--- ---- write_log and undo, which have no rows
-
-abbrev pub server_columns : List Term
-server_columns = col 1 1 ∷ []
-
-abbrev pub server_names : List (List ℕ)
-server_names = codes "server" ∷ []
-
-abbrev pub write_log_text : List ℕ
-write_log_text = codes "SELECT server FROM write_log"
-
-pub write_log_is : MeansQuery write_log_text (Select (program_of 6 [] server_columns) server_names)
-unfolding understood everything
-write_log_is = ((refl, (refl, refl)), refl)
-
-abbrev pub undo_text : List ℕ
-undo_text = codes "SELECT server FROM undo"
-
-pub undo_is : MeansQuery undo_text (Select (program_of 8 [] server_columns) server_names)
-unfolding understood everything
-undo_is = ((refl, (refl, refl)), refl)
 
 -- ---- booking
 
@@ -167,33 +116,20 @@ pub take_booking_is : Means take_booking_text (Delete 5 (program_of 10 booking_k
 unfolding understood everything
 take_booking_is = (refl, (refl, refl))
 
-abbrev pub booking_columns : List Term
-booking_columns = col 1 1 ∷ col 1 2 ∷ col 1 3 ∷ col 1 4 ∷ col 1 5 ∷ col 1 6 ∷ col 1 7 ∷ col 1 8 ∷ []
-
-abbrev pub booking_names : List (List ℕ)
-booking_names = codes "room" ∷ codes "day" ∷ codes "start" ∷ codes "stop" ∷ codes "server" ∷ codes "n" ∷ codes "title" ∷ codes "committed" ∷ []
-
-abbrev pub all_booking_text : List ℕ
-all_booking_text = codes "SELECT room, day, start, stop, server, n, title, committed FROM booking"
-
-pub all_booking_is : MeansQuery all_booking_text (Select (program_of 10 [] booking_columns) booking_names)
-unfolding understood everything
-all_booking_is = ((refl, (refl, refl)), refl)
-
 abbrev pub room_booking_text : List ℕ
 room_booking_text = codes "SELECT room, day, start, stop, server, n, title, committed FROM booking WHERE room = ?1"
 
 abbrev pub booking_room_tests : List Term
 booking_room_tests = same (col 1 1) (col 0 0) ∷ []
 
-pub room_booking_is : MeansQuery room_booking_text (Select (program_of 10 booking_room_tests booking_columns) booking_names)
+pub room_booking_is : MeansQuery room_booking_text (asks booking_form.table booking_room_tests)
 unfolding understood everything
 room_booking_is = ((refl, (refl, refl)), refl)
 
 abbrev pub key_booking_text : List ℕ
 key_booking_text = codes "SELECT room, day, start, stop, server, n, title, committed FROM booking WHERE server = ?1 AND n = ?2"
 
-pub key_booking_is : MeansQuery key_booking_text (Select (program_of 10 booking_key_tests booking_columns) booking_names)
+pub key_booking_is : MeansQuery key_booking_text (asks booking_form.table booking_key_tests)
 unfolding understood everything
 key_booking_is = ((refl, (refl, refl)), refl)
 
@@ -219,33 +155,20 @@ pub take_error_is : Means take_error_text (Delete 6 (program_of 12 error_key_tes
 unfolding understood everything
 take_error_is = (refl, (refl, refl))
 
-abbrev pub error_columns : List Term
-error_columns = col 1 1 ∷ col 1 2 ∷ col 1 3 ∷ col 1 4 ∷ col 1 5 ∷ col 1 6 ∷ col 1 7 ∷ col 1 8 ∷ col 1 9 ∷ []
-
-abbrev pub error_names : List (List ℕ)
-error_names = codes "room" ∷ codes "day" ∷ codes "start" ∷ codes "stop" ∷ codes "server" ∷ codes "n" ∷ codes "title" ∷ codes "tm" ∷ codes "seq" ∷ []
-
-abbrev pub all_error_text : List ℕ
-all_error_text = codes "SELECT room, day, start, stop, server, n, title, tm, seq FROM errorlog"
-
-pub all_error_is : MeansQuery all_error_text (Select (program_of 12 [] error_columns) error_names)
-unfolding understood everything
-all_error_is = ((refl, (refl, refl)), refl)
-
 abbrev pub room_error_text : List ℕ
 room_error_text = codes "SELECT room, day, start, stop, server, n, title, tm, seq FROM errorlog WHERE room = ?1"
 
 abbrev pub error_room_tests : List Term
 error_room_tests = same (col 1 1) (col 0 0) ∷ []
 
-pub room_error_is : MeansQuery room_error_text (Select (program_of 12 error_room_tests error_columns) error_names)
+pub room_error_is : MeansQuery room_error_text (asks error_form.table error_room_tests)
 unfolding understood everything
 room_error_is = ((refl, (refl, refl)), refl)
 
 abbrev pub key_error_text : List ℕ
 key_error_text = codes "SELECT room, day, start, stop, server, n, title, tm, seq FROM errorlog WHERE server = ?1 AND n = ?2"
 
-pub key_error_is : MeansQuery key_error_text (Select (program_of 12 error_key_tests error_columns) error_names)
+pub key_error_is : MeansQuery key_error_text (asks error_form.table error_key_tests)
 unfolding understood everything
 key_error_is = ((refl, (refl, refl)), refl)
 
@@ -271,19 +194,6 @@ pub take_log_is : Means take_log_text (Delete 7 (program_of 14 log_key_tests (co
 unfolding understood everything
 take_log_is = (refl, (refl, refl))
 
-abbrev pub log_columns : List Term
-log_columns = col 1 1 ∷ col 1 2 ∷ col 1 3 ∷ col 1 4 ∷ col 1 5 ∷ col 1 6 ∷ col 1 7 ∷ col 1 8 ∷ col 1 9 ∷ col 1 10 ∷ col 1 11 ∷ col 1 12 ∷ []
-
-abbrev pub log_names : List (List ℕ)
-log_names = codes "server" ∷ codes "n" ∷ codes "tm" ∷ codes "room" ∷ codes "kind" ∷ codes "length" ∷ codes "choices" ∷ codes "title" ∷ codes "tserver" ∷ codes "tn" ∷ codes "place" ∷ codes "seq" ∷ []
-
-abbrev pub all_log_text : List ℕ
-all_log_text = codes "SELECT server, n, tm, room, kind, length, choices, title, tserver, tn, place, seq FROM log"
-
-pub all_log_is : MeansQuery all_log_text (Select (program_of 14 [] log_columns) log_names)
-unfolding understood everything
-all_log_is = ((refl, (refl, refl)), refl)
-
 -- ---- cancelled
 
 abbrev pub put_cancelled_text : List ℕ
@@ -306,33 +216,20 @@ pub take_cancelled_is : Means take_cancelled_text (Delete 8 (program_of 16 cance
 unfolding understood everything
 take_cancelled_is = (refl, (refl, refl))
 
-abbrev pub cancelled_columns : List Term
-cancelled_columns = col 1 1 ∷ col 1 2 ∷ col 1 3 ∷ col 1 4 ∷ col 1 5 ∷ col 1 6 ∷ col 1 7 ∷ col 1 8 ∷ col 1 9 ∷ col 1 10 ∷ []
-
-abbrev pub cancelled_names : List (List ℕ)
-cancelled_names = codes "room" ∷ codes "day" ∷ codes "start" ∷ codes "stop" ∷ codes "server" ∷ codes "n" ∷ codes "title" ∷ codes "committed" ∷ codes "bserver" ∷ codes "bn" ∷ []
-
-abbrev pub all_cancelled_text : List ℕ
-all_cancelled_text = codes "SELECT room, day, start, stop, server, n, title, committed, bserver, bn FROM cancelled"
-
-pub all_cancelled_is : MeansQuery all_cancelled_text (Select (program_of 16 [] cancelled_columns) cancelled_names)
-unfolding understood everything
-all_cancelled_is = ((refl, (refl, refl)), refl)
-
 abbrev pub cancelled_room_tests : List Term
 cancelled_room_tests = same (col 1 1) (col 0 0) ∷ []
 
 abbrev pub room_cancelled_text : List ℕ
 room_cancelled_text = codes "SELECT room, day, start, stop, server, n, title, committed, bserver, bn FROM cancelled WHERE room = ?1"
 
-pub room_cancelled_is : MeansQuery room_cancelled_text (Select (program_of 16 cancelled_room_tests cancelled_columns) cancelled_names)
+pub room_cancelled_is : MeansQuery room_cancelled_text (asks cancelled_form.table cancelled_room_tests)
 unfolding understood everything
 room_cancelled_is = ((refl, (refl, refl)), refl)
 
 abbrev pub key_cancelled_text : List ℕ
 key_cancelled_text = codes "SELECT room, day, start, stop, server, n, title, committed, bserver, bn FROM cancelled WHERE server = ?1 AND n = ?2"
 
-pub key_cancelled_is : MeansQuery key_cancelled_text (Select (program_of 16 cancelled_key_tests cancelled_columns) cancelled_names)
+pub key_cancelled_is : MeansQuery key_cancelled_text (asks cancelled_form.table cancelled_key_tests)
 unfolding understood everything
 key_cancelled_is = ((refl, (refl, refl)), refl)
 
@@ -351,32 +248,19 @@ put_cancel_is = (refl, (refl, refl))
 abbrev pub cancel_key_tests : List Term
 cancel_key_tests = same (col 1 1) (col 0 0) ∷ same (col 1 2) (col 0 1) ∷ []
 
-abbrev pub cancel_columns : List Term
-cancel_columns = col 1 1 ∷ col 1 2 ∷ col 1 3 ∷ col 1 4 ∷ col 1 5 ∷ col 1 6 ∷ col 1 7 ∷ col 1 8 ∷ []
-
-abbrev pub cancel_names : List (List ℕ)
-cancel_names = codes "server" ∷ codes "n" ∷ codes "room" ∷ codes "tserver" ∷ codes "tn" ∷ codes "done" ∷ codes "tm" ∷ codes "seq" ∷ []
-
-abbrev pub all_cancel_text : List ℕ
-all_cancel_text = codes "SELECT server, n, room, tserver, tn, done, tm, seq FROM cancel"
-
-pub all_cancel_is : MeansQuery all_cancel_text (Select (program_of 18 [] cancel_columns) cancel_names)
-unfolding understood everything
-all_cancel_is = ((refl, (refl, refl)), refl)
-
 abbrev pub cancel_room_tests : List Term
 cancel_room_tests = same (col 1 3) (col 0 0) ∷ []
 
 abbrev pub room_cancel_text : List ℕ
 room_cancel_text = codes "SELECT server, n, room, tserver, tn, done, tm, seq FROM cancel WHERE room = ?1"
 
-pub room_cancel_is : MeansQuery room_cancel_text (Select (program_of 18 cancel_room_tests cancel_columns) cancel_names)
+pub room_cancel_is : MeansQuery room_cancel_text (asks cancel_form.table cancel_room_tests)
 unfolding understood everything
 room_cancel_is = ((refl, (refl, refl)), refl)
 
 abbrev pub key_cancel_text : List ℕ
 key_cancel_text = codes "SELECT server, n, room, tserver, tn, done, tm, seq FROM cancel WHERE server = ?1 AND n = ?2"
 
-pub key_cancel_is : MeansQuery key_cancel_text (Select (program_of 18 cancel_key_tests cancel_columns) cancel_names)
+pub key_cancel_is : MeansQuery key_cancel_text (asks cancel_form.table cancel_key_tests)
 unfolding understood everything
 key_cancel_is = ((refl, (refl, refl)), refl)

@@ -14,12 +14,12 @@ use Rattle.sqlite.specs.Listing.{understood, reads_listing, IsSourceOf}
 use Rattle.sqlite.specs.State.{State, HasCleanDisk, IsUnchanged, Fails, Shown, ShowsRows, Survives, CommitsShowing}
 use Rattle.sqlite.proofs.StateLemmas.{survives_weaker}
 use Rattle.sqlite.proofs.Callers.{IsPlain, begun_plain, unchanged_then}
-use Rattle.mr_rows.specs.Schema.{our_schema}
-use Rattle.mr_rows.specs.Reads.{IsPlaced, Looks, ReadsKept}
+use Rattle.sqlite_schema.specs.declared.schema.Schema.{Schema}
+use Rattle.mr_rows.specs.Reads.{IsPlacedIn, LooksIn, Looks, ReadsKept}
 use Rattle.mr_rows.specs.Form.{Form}
 use Rattle.mr_rows.specs.Shown.{IsShownAs, IsShownSo}
 use Rattle.mr_rows.specs.Kept.{AreTaken}
-use Rattle.mr_rows.proofs.QueryLemmas.{placed, plain_here, shown_open, left_same, commits_none, looked, looks_so, looks_then}
+use Rattle.mr_rows.proofs.QueryLemmas.{placed, plain_here, shown_open, left_same, commits_none, looked_in, looks_so, looks_then}
 
 -- what is shown of an unchanged database is shown of it as it was
 shown_from : (sql : List ℕ) (params : Row) (a b c : State) (rows : List Row) → IsPlain (understood a.now.schema sql) → IsUnchanged a b → Shown sql params b c rows → Shown sql params a c rows
@@ -70,11 +70,11 @@ module _ {S : Type 0} (g : store.Ghosts S) (sql : List ℕ) (params : Row) (Q : 
   one_on old new (Some row) plain far still on = (unchanged_then first (state g old) (state g new) far.0 still, far.1, on sql params far.1 far.2, far.3)
   one_on old new None plain far still on = (far.1, shown_from sql params first (state g old) (state g new) far.1 plain far.0 (on sql params far.1 far.2), far.3)
 
-module _ {S : Type 0} (g : store.Ghosts S) (sql : List ℕ) (params : Row) (plain : IsPlain (understood our_schema sql)) where
+module _ {S : Type 0} (g : store.Ghosts S) (sql : List ℕ) (params : Row) {under : Schema} (plain : IsPlain (understood under sql)) where
   pub begun : (Q : List Row → Type 0) (old new : Held S) → (HasCleanDisk (state g new) → HasBegun g sql params old new) → Survives (state g old) (state g new) (CommitsShowing sql params (state g old)) → Q []
-      → Looks {X = Unit {0}} (state g old) (state g new) (Ok tt) (λ _. SoFar g sql params Q (state g old) new)
+      → LooksIn {X = Unit {0}} under (state g old) (state g new) (Ok tt) (λ _. SoFar g sql params Q (state g old) new)
   begun Q old new began survives none = (
-    commits_none sql params (state g old) (state g new) plain IsPlaced (λ here. here) survives,
+    commits_none sql params (state g old) (state g new) plain (IsPlacedIn under) (λ here. here) survives,
     λ clean now. (was_open (began clean), λ here. let same = (begun_at clean here).1 in (same.0.now_is, same.0.committed_is)),
     λ clean here. let it = begun_at clean here in (it.1.0.is_open, (it.1, [], it.0, none)),
   )
@@ -83,20 +83,20 @@ module _ {S : Type 0} (g : store.Ghosts S) (sql : List ℕ) (params : Row) (plai
       was_open (inl h) = h.1.0.was_open
       was_open (inr h) = shown_open sql params (state g old) (state g new) _ h.1
 
-      begun_at : HasCleanDisk (state g new) → IsPlaced (state g old) → HasGiven g sql params new [] × IsUnchanged (state g old) (state g new)
+      begun_at : HasCleanDisk (state g new) → IsPlacedIn under (state g old) → HasGiven g sql params new [] × IsUnchanged (state g old) (state g new)
       begun_at clean here = begun_plain g sql params old new (plain_here (state g old) sql here plain) (began clean)
 
   -- where the query is refused
-  pub refused : {X : Type 0} (old new : Held S) (r : Result X Error) → OnOk r ⊥ → OnErr r (IsRefused g sql params old r new) → Looks (state g old) (state g new) r (λ _. Unit {0})
+  pub refused : {X : Type 0} (old new : Held S) (r : Result X Error) → OnOk r ⊥ → OnErr r (IsRefused g sql params old r new) → LooksIn under (state g old) (state g new) r (λ _. Unit {0})
   refused old new (Ok x) none held = absurd none
   refused {X} old new (Err e) none held =
       looks_so {X = X} (state g old) (state g new) (Err e) (λ _. Shown sql params (state g old) (state g new) []) (λ _. Unit {0}) (λ here x shown. tt {0})
-      (looked sql params (state g old) (state g new) plain {X = X} (λ _. []) (Err e) (λ clean. tt) held.err held.survives)
+      (looked_in sql params (state g old) (state g new) plain {X = X} (λ _. []) (Err e) (λ clean. tt) held.err held.survives)
 
   moved : (old new : Held S) (r : Result (Unit {0}) Error) (row : Option Row) → (HasCleanDisk (state g new) → OnOk r (Advances g old new row))
       → (HasCleanDisk (state g new) → OnOk r (IsUnchanged (state g old) (state g new)))
       → (HasCleanDisk (state g new) → IfErr r (λ e. Fails (state g old) (state g new) ⊥ e ⊎ IsUnchanged (state g old) (state g new))) → Survives (state g old) (state g new) (λ _. ⊥)
-      → Looks (state g old) (state g new) r (λ _. IsUnchanged (state g old) (state g new) × Advances g old new row)
+      → LooksIn under (state g old) (state g new) r (λ _. IsUnchanged (state g old) (state g new) × Advances g old new row)
   moved old new (Ok x) row on still kept survives = (
     survives_weaker (state g old) (state g new) _ _ (λ _ db none. absurd none) survives,
     λ clean now. let same = still clean in (same.0.was_open, λ here. (same.0.now_is, same.0.committed_is)),
@@ -112,24 +112,24 @@ module _ {S : Type 0} (g : store.Ghosts S) (sql : List ℕ) (params : Row) (plai
   )
 
   pub advanced : (Q : List Row → Type 0) (first : State) (old new : Held S) (r : Result (Unit {0}) Error) (row : Option Row)
-      → Looks {X = Unit {0}} first (state g old) (Ok tt) (λ _. SoFar g sql params Q first old)
+      → LooksIn {X = Unit {0}} under first (state g old) (Ok tt) (λ _. SoFar g sql params Q first old)
       → (HasCleanDisk (state g new) → OnOk r (Advances g old new row)) → (HasCleanDisk (state g new) → OnOk r (IsUnchanged (state g old) (state g new)))
       → (HasCleanDisk (state g new) → IfErr r (λ e. Fails (state g old) (state g new) ⊥ e ⊎ IsUnchanged (state g old) (state g new))) → Survives (state g old) (state g new) (λ _. ⊥)
-      → Looks first (state g new) r (λ _. OneOn g sql params Q first new row)
+      → LooksIn under first (state g new) r (λ _. OneOn g sql params Q first new row)
   advanced Q first old new r row far on still kept survives =
       looks_then {X = Unit {0}} {Y = Unit {0}} first (state g old) (state g new) (tt {0}) (λ _. SoFar g sql params Q first old) r (λ _ _. IsUnchanged (state g old) (state g new) × Advances g old new row)
       (λ _. OneOn g sql params Q first new row) (λ here x far moved. one_on g sql params Q first old new row (plain_here first sql here plain) far moved.0 moved.1) far (moved old new r row on still kept survives)
 
   -- no row is left
-  pub none_left : (Q : List Row → Type 0) (first : State) (new : Held S) (row : Option Row) → None ≡ row → Looks {X = Unit {0}} first (state g new) (Ok tt) (λ _. OneOn g sql params Q first new row)
-      → Looks {X = Unit {0}} first (state g new) (Ok tt) (λ _. IsShownSo Q sql params first (state g new))
+  pub none_left : (Q : List Row → Type 0) (first : State) (new : Held S) (row : Option Row) → None ≡ row → LooksIn {X = Unit {0}} under first (state g new) (Ok tt) (λ _. OneOn g sql params Q first new row)
+      → LooksIn {X = Unit {0}} under first (state g new) (Ok tt) (λ _. IsShownSo Q sql params first (state g new))
   none_left Q first new row is =
       looks_so {X = Unit {0}} first (state g new) (Ok (tt {0})) (λ _. OneOn g sql params Q first new row) (λ _. IsShownSo Q sql params first (state g new))
       (λ here x one. subst (OneOn g sql params Q first new) (sym is) one)
 
   -- what is so of the rows before one is made so of it too
   pub one_done : (Q Next : List Row → Type 0) (first : State) (new : Held S) (row : Option Row) (given : Row) → Some given ≡ row → ((rows : List Row) → Q rows → Next (rows ++ given ∷ []))
-      → Looks {X = Unit {0}} first (state g new) (Ok tt) (λ _. OneOn g sql params Q first new row) → Looks {X = Unit {0}} first (state g new) (Ok tt) (λ _. SoFar g sql params Next first new)
+      → LooksIn {X = Unit {0}} under first (state g new) (Ok tt) (λ _. OneOn g sql params Q first new row) → LooksIn {X = Unit {0}} under first (state g new) (Ok tt) (λ _. SoFar g sql params Next first new)
   one_done Q Next first new row given is more =
       looks_so {X = Unit {0}} first (state g new) (Ok (tt {0})) (λ _. OneOn g sql params Q first new row) (λ _. SoFar g sql params Next first new)
       (λ here x one. let it = subst (OneOn g sql params Q first new) (sym is) one in (it.0, it.1 ++ given ∷ [], it.2, more it.1 it.3))

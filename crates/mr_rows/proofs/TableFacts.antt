@@ -17,7 +17,7 @@ use Rattle.sqlite.specs.Kind.TheVariants.{Integer}
 use Rattle.mr_model.specs.Texts as texts
 use Rattle.mr_model.specs.Replica.{is_among}
 use Rattle.mr_model.specs.Tables.{MetaRow, VectorRow, ActionCells, OfMeeting, OfCancel, LogRow, BookingRow, ErrorRow, CancelledRow, CancelRow}
-use Rattle.mr_tables.proofs.Putting.{id_order, number_order, name_order}
+use Rattle.mr_tables.specs.TableOrders.{id_order, number_order, name_order}
 use Rattle.mr_rows.specs.Meaning.{passes}
 use Rattle.mr_rows.specs.Schema.{our_schema}
 use Rattle.mr_rows.specs.RowCells.{flag_number, place_number, room_in, vector_in, log_in, booking_row_from, error_in, cancelled_in, cancel_row_from}

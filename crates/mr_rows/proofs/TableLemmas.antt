@@ -31,7 +31,7 @@ use Rattle.sqlite.specs.Does.{Does, OnRows}
 use Rattle.sqlite.specs.State.{State, mode_of, ExecutesInside, Shown}
 use Rattle.sqlite.proofs.Callers.{statement_of, runs_as, reads_as}
 use Rattle.mr_tables.specs.Change.{put, put_all}
-use Rattle.mr_tables.proofs.Putting.{IsOrder}
+use Rattle.mr_tables.specs.TableOrders.{IsOrder}
 use Rattle.mr_rows.specs.Meaning.{passes}
 use Rattle.mr_rows.specs.Form.{Form}
 use Rattle.mr_rows.specs.Database.{IsRowOf, IsHeld, in_order}
@@ -94,7 +94,19 @@ turned task db after rows ours left t none = go (t == task.table.tree) refl
         itself : (n : ℕ) → (n == n) ≡ true
         itself n = grind (arith)
 
-module _ {under : Schema} {R K : Type 0} (f : Form R K) (facts : Facts under f) where
+-- no two rows of a table that is held have one key
+pub keys_apart : {R K : Type 0} (f : Form R K) (rows : List Row) → IsHeld f rows → Apart f.before f.key (map f.row_in rows)
+keys_apart {R} f rows held = go rows held.apart
+  where
+    all : (x : R) (rows : List Row) → AllByRecursion (λ s. f.key x ≡ f.key (f.row_in s) → ⊥) rows → AllByRecursion (λ y. f.key x ≡ f.key y → ⊥) (map f.row_in rows)
+    all x [] h = tt
+    all x (r ∷ rows) h = (h.0, all x rows h.1)
+
+    go : (rows : List Row) → IsAscending (λ r s. f.key (f.row_in r) ≡ f.key (f.row_in s) → ⊥) rows → Apart f.before f.key (map f.row_in rows)
+    go [] h = tt
+    go (r ∷ rows) h = (all (f.row_in r) rows h.0, go rows h.1)
+
+module _ {R K : Type 0} (f : Form R K) where
   -- a test of stored rows that is one of plain rows
   pub kept_through : (test : Row → Bool) (plain : R → Bool) (rows : List Row) → AllByRecursion (IsRowOf f) rows → ((r : Row) → IsRowOf f r → test r ≡ plain (f.row_in r))
       → map f.row_in (filter test rows) ≡ filter plain (map f.row_in rows)
@@ -105,16 +117,9 @@ module _ {under : Schema} {R K : Type 0} (f : Form R K) (facts : Facts under f) 
       ≡ cond b (f.row_in r ∷ filter plain (map f.row_in rows)) (filter plain (map f.row_in rows)))
       [ true ↦ ap (λ xs. f.row_in r ∷ xs) (kept_through test plain rows all.1 same) | false ↦ kept_through test plain rows all.1 same ])
 
+module _ {under : Schema} {R K : Type 0} (f : Form R K) (facts : Facts under f) where
   pub plain_apart : (rows : List Row) → IsHeld f rows → Apart f.before f.key (map f.row_in rows)
-  plain_apart rows held = go rows held.apart
-    where
-      all : (x : R) (rows : List Row) → AllByRecursion (λ s. f.key x ≡ f.key (f.row_in s) → ⊥) rows → AllByRecursion (λ y. f.key x ≡ f.key y → ⊥) (map f.row_in rows)
-      all x [] h = tt
-      all x (r ∷ rows) h = (h.0, all x rows h.1)
-
-      go : (rows : List Row) → IsAscending (λ r s. f.key (f.row_in r) ≡ f.key (f.row_in s) → ⊥) rows → Apart f.before f.key (map f.row_in rows)
-      go [] h = tt
-      go (r ∷ rows) h = (all (f.row_in r) rows h.0, go rows h.1)
+  plain_apart = keys_apart f
 
   held-filter : (test : Row → Bool) (rows : List Row) → IsHeld f rows → IsHeld f (filter test rows)
   held-filter test rows held = record {
@@ -141,7 +146,7 @@ module _ {under : Schema} {R K : Type 0} (f : Form R K) (facts : Facts under f) 
       let stored = old.now.trees f.table.tree in
       let test = λ (r : Row). not (passes facts.key_tests params r) in
       let plain = λ (x : R). not (facts.has_key k x) in
-      let shown = kept_through test plain stored held.whole (λ r is. ap not (facts.finds k r is)) in
+      let shown = kept_through f test plain stored held.whole (λ r is. ap not (facts.finds k r is)) in
       record {
         rows = filter test stored;
         schema = left.schema;
@@ -174,7 +179,7 @@ module _ {under : Schema} {R K : Type 0} (f : Form R K) (facts : Facts under f) 
       let others = filter test stored in
       let id = next_rowid stored in
       let less = held-filter test stored held in
-      let shown = kept_through test (λ y. not (plain y)) stored held.whole (λ r is. ap not (facts.finds (f.key x) r is)) in
+      let shown = kept_through f test (λ y. not (plain y)) stored held.whole (λ r is. ap not (facts.finds (f.key x) r is)) in
       let shelf = shelf_push others id (f.cells x) less.shelf (all_from _ others (λ r here. next_above stored held.shelf r (has_filtered test stored r here).0)) in
       record {
         rows = others ++ (Int id ∷ f.cells x) ∷ [];
@@ -206,6 +211,9 @@ module _ {under : Schema} {R K : Type 0} (f : Form R K) (facts : Facts under f) 
           let finds = facts.finds (f.key x) r (all_has _ _ r held.whole here.0) ∙ facts.own_key x (f.row_in r) same in
           absurd (let never = sym (ap not finds) ∙ here.1 in cc)
 
+-- ---- what a query finds
+
+module _ {under : Schema} {R K : Type 0} (f : Form R K) (order : IsOrder K f.before) (alone : (db : Trees) → overlay db [] f.table.tree ≡ db f.table.tree) where
   -- What a query finds, where what it shows of a row is read as something that is told of the plain row.
   pub finds_as : {X : Type 0} (read : Row → X) (told : R → X) (text : List ℕ) (tests project : List Term) (names : List (List ℕ)) (params : Row) (old new : State) (plain : R → Bool) (rows : List Row)
       → MeansQueryIn under text (Select (program_of f.table.tree tests project) names) → ((r : Row) → IsRowOf f r → passes tests params r ≡ plain (f.row_in r))
@@ -216,12 +224,12 @@ module _ {under : Schema} {R K : Type 0} (f : Form R K) (facts : Facts under f) 
       let program : Program = program_of f.table.tree tests project in
       let answer = reads_as text params old new under schema (Select program names) means.0.0 means.0.1 means.1 rows h in
       let stored = old.now.trees f.table.tree in
-      let moved = shows f.table.tree tests project old.now.trees params rows (facts.alone old.now.trees) (answer.answer Null) in
+      let moved = shows f.table.tree tests project old.now.trees params rows (alone old.now.trees) (answer.answer Null) in
       let found = filter (passes tests params) stored in
       let through = IsPermutation-map read _ rows moved in
       let plain_rows = map f.row_in stored in
-      let there = subst (λ xs. IsPermutation xs (map read rows)) (back found (all-filter _ _ stored held.whole) ∙ ap (map told) (kept_through (passes tests params) plain stored held.whole same)) through in
-      IsPermutation-trans _ _ _ (IsPermutation-map told _ _ (IsPermutation-sym _ _ (IsPermutation-filter plain _ _ (ordered_same f.before f.key facts.order plain_rows (plain_apart stored held))))) there
+      let there = subst (λ xs. IsPermutation xs (map read rows)) (back found (all-filter _ _ stored held.whole) ∙ ap (map told) (kept_through f (passes tests params) plain stored held.whole same)) through in
+      IsPermutation-trans _ _ _ (IsPermutation-map told _ _ (IsPermutation-sym _ _ (IsPermutation-filter plain _ _ (ordered_same f.before f.key order plain_rows (keys_apart f stored held))))) there
     where
       back : (found : List Row) → AllByRecursion (IsRowOf f) found → map read (map (λ r. eval_all project (params ∷ r ∷ [])) found) ≡ map told (map f.row_in found)
       back [] all = refl

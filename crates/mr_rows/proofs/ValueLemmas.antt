@@ -1,7 +1,6 @@
 -- Equality of values, and what a column makes of a value of its own kind.
-use Rattle.std.proofs.Common.{◌≡◌, ℕ, ℤ, pos, List, [], ◌∷◌, Bool, true, false, ◌&&◌, ◌||◌, ◌==◌, cond, if◌then◌else◌, Some, refl, sym, ap, ◌∙◌, arith, Less, eqb-true, eq-eqb}
+use Rattle.std.proofs.Common.{◌≡◌, inl, ⊎_elim, ℕ, ℤ, pos, List, [], ◌∷◌, Bool, true, false, ◌&&◌, ◌||◌, ◌==◌, cond, if◌then◌else◌, Some, refl, sym, ap, ◌∙◌, arith, Less}
 use Rattle.std.proofs.lemmas.Map.Text.{is_eq-slice_cmp}
-use Rattle.std.proofs.lemmas.Bool.{and_parts, and_from}
 use Rattle.std.specs.Prelude.{bytes_eq}
 use Rattle.std.specs.Ordering.{is_eq, int_cmp}
 use Rattle.sqlite_value.specs.declared.value.Value.{Value}
@@ -13,14 +12,12 @@ use Rattle.sqlite_schema.specs.Rules.{equal}
 use Rattle.sqlite_rules.specs.Cast.{cast}
 use Rattle.sqlite.specs.Collation.TheVariants.{Binary}
 use Rattle.sqlite.specs.Kind.TheVariants.{Integer}
-use Rattle.mr_model.specs.Writes.{Id, same_id}
+use Rattle.mr_model.specs.Writes.{Id}
 use Rattle.mr_model.specs.Replica.{is_among}
-
+use Rattle.mr_model.proofs.Members.{among_has, has_among}
 -- ---- equality
 
-pub and_true : (b : Bool) → (b && true) ≡ b
-and_true true = refl
-and_true false = refl
+pub use Rattle.std.proofs.Math.Bool.{and-true as and_true, or-false as or_false}
 
 truth_back : (b : Bool) → is_true (from_truth (Some b)) ≡ b
 truth_back true = refl
@@ -46,11 +43,6 @@ pub equal_apart : (a b : Value) → value_cmp a b ≡ Less → equal Binary a b 
 unfolding binary
 equal_apart a b low = never_true (is_null a || is_null b) _ (ap is_eq low)
 
--- nothing or false is that
-pub or_false : (b : Bool) → (b || false) ≡ b
-or_false true = refl
-or_false false = refl
-
 -- ---- keys of two columns
 
 -- the test for an id
@@ -58,14 +50,10 @@ pub id_test : (s n : ℕ) (id : Id) → (equal Binary (Int (pos s)) (Int (pos id
 id_test s n id = rw (equal_nat s id.server, equal_nat n id.n, and_true (n == id.n)) (sym (or_false ((s == id.server) && (n == id.n))))
 
 pub among_one : (a id : Id) → is_among a (id ∷ []) ≡ true → a ≡ id
-among_one a id h =
-    let both = and_parts (a.server == id.server) (a.n == id.n) (sym (or_false (same_id a id)) ∙ h) in
-    let s : a.server ≡ id.server = eqb-true a.server id.server both.0 in
-    let n : a.n ≡ id.n = eqb-true a.n id.n both.1 in
-    λ i. record { server = s i; n = n i }
+among_one a id h = ⊎_elim (λ same. same) (λ none. absurd none) (among_has a (id ∷ []) h)
 
 pub one_among : (a id : Id) → a ≡ id → is_among a (id ∷ []) ≡ true
-one_among a id same = or_false (same_id a id) ∙ and_from (a.server == id.server) (a.n == id.n) (eq-eqb a.server id.server (ap (λ (x : Id). x.server) same)) (eq-eqb a.n id.n (ap (λ (x : Id). x.n) same))
+one_among a id same = has_among a (id ∷ []) (inl same)
 
 -- ---- clashes of a new row with an old one, whose rowid is another
 

@@ -1,5 +1,5 @@
 -- Why a call that only reads answers an error.
-use Rattle.std.specs.Prelude.{◌≡◌, ◌≢◌, ◌⊎◌, ◌≤◌, ℕ, false, List, length, Option, Result, Ok, Err, Vec, IsSome, IfOk, IfErr}
+use Rattle.std.specs.Prelude.{◌≡◌, ◌≢◌, ◌⊎◌, ◌≤◌, ℕ, false, List, [], length, Option, Result, Ok, Err, Vec, IsSome, IfOk, IfErr}
 use Rattle.std.specs.List.{All, AllByRecursion}
 use Rattle.std.specs.declared.alloc.Global.{Global}
 use Rattle.sqlite_value.specs.Order.{Row}
@@ -12,8 +12,13 @@ use Rattle.sqlite.specs.declared.error.ErrorCode.TheVariants as code
 use Rattle.sqlite.specs.declared.error.Error.{Error}
 use Rattle.sqlite.specs.declared.error.Error.TheVariants.{SqliteFailure}
 use Rattle.sqlite.specs.Effect.{Database, RefusesToRead}
+use Rattle.sqlite.specs.Command.TheVariants.{Select}
+use Rattle.sqlite.specs.Given.{IsPlain}
 use Rattle.sqlite.specs.Listing.{understood, reads_listing}
 use Rattle.sqlite.specs.State.{State, HasCleanDisk, HasCause, Begins, store_error}
+use Rattle.sqlite.proofs.Callers.{command_of}
+use Rattle.sqlite_sql.specs.Program.{overlay}
+use Rattle.mr_rows.specs.Meaning.{query_of, columns_at}
 use Rattle.mr_rows.specs.Schema.{our_schema}
 use Rattle.mr_rows.specs.Form.{Form}
 use Rattle.mr_rows.specs.Reads.{IsPlacedIn, IsPlaced}
@@ -61,3 +66,12 @@ ShowsOnly P sql params s = (rows : List Row) → Begins sql params s rows → Al
 -- where the rows of a table are its own, so are those that are shown of it
 abbrev pub ShowsRows : {R K : Type 0} → Form R K → State → State → Result (Vec Row Global) Error → Type 0
 ShowsRows f old new result = HasCleanDisk new → IsPlaced old → AreStoredAs f old.now.trees → IfOk result (λ rows. All (IsShownAs f) rows.items)
+
+-- Under this schema the text asks for all rows of the table in this tree, so many columns of each, and only the store makes it fail.
+pub record AsksAll (under : Schema) (tree n : ℕ) (sql : List ℕ) : Type 0 where
+  pub names : List (List ℕ)
+  pub means : command_of (understood under sql) ≡ Select (record { lets = []; body = query_of tree [] (columns_at 1 n) }) names
+  pub plain : IsPlain (understood under sql)
+  pub sure : IsSureIn under sql []
+  -- nothing is computed in place of its rows
+  pub alone : (trees : Trees) → overlay trees [] tree ≡ trees tree

@@ -9,7 +9,7 @@ use Rattle.mr_model.specs.Queries.{booking_id, error_id, cancelled_id, cancel_id
 use Rattle.mr_tables.specs.Change.{id_before}
 use Rattle.sqlite_schema.specs.declared.schema.Table.{Table}
 use Rattle.mr_rows.specs.Schema.{meta_table, room_table, vector_table, booking_table, error_table, log_table, cancelled_table, cancel_table}
-use Rattle.mr_rows.specs.RowCells.{meta_cells, meta_in, room_cells, room_in, vector_cells, vector_in, log_cells, log_in, booking_cells, booking_row_from, error_cells, error_in, cancelled_cells, cancelled_in, cancel_cells, cancel_row_from}
+use Rattle.mr_rows.specs.RowCells.{meta_cells_of, meta_in, room_cells, room_in, vector_cells, vector_in, log_cells, log_in, booking_cells, booking_row_from, error_cells, error_in, cancelled_cells, cancelled_in, cancel_cells, cancel_row_from}
 use Rattle.mr_rows.specs.RowLimits.{is_meta_row, is_vector_row, is_log_row, is_booking_row, is_error_row, is_cancelled_row, is_cancel_row}
 
 -- plain rows R with keys K
@@ -21,9 +21,12 @@ pub record Form (R K : Type 0) : Type 0 where
   pub key : R → K
   pub before : K → K → Bool
 
--- of `meta` all rows have one key
+-- of `meta` all rows have one key; under the schema of this number
+abbrev pub meta_form_of : ℕ → Form MetaRow ℕ
+meta_form_of number = record { table = record meta_table { tree = 0 }; cells = meta_cells_of number; row_in = meta_in; within = is_meta_row; key = λ _. 1; before = nat_lt }
+
 abbrev pub meta_form : Form MetaRow ℕ
-meta_form = record { table = record meta_table { tree = 0 }; cells = meta_cells; row_in = meta_in; within = is_meta_row; key = λ _. 1; before = nat_lt }
+meta_form = meta_form_of 2
 
 abbrev pub room_form : Form Text Text
 room_form = record { table = record room_table { tree = 2 }; cells = room_cells; row_in = room_in; within = is_room_name; key = λ name. name; before = text_before }

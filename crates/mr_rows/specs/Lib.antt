@@ -1,4 +1,4 @@
--- A reader of the contracts trusts Schema, Shelf, RowCells, RowLimits, CellLimits, TableLimits, Form, Database, Reads, Causes, RowQuestions, Shown, Kept, ChangeParts and TakeLaws. Meaning serves proofs alone.
+-- A reader of the contracts trusts Schema, Meaning, Shelf, RowCells, RowLimits, CellLimits, TableLimits, Form, Database, Reads, Causes, RowQuestions, Shown, Kept, ChangeParts and TakeLaws.
 pub mod Schema
 pub mod Meaning
 pub mod Shelf
@@ -13,5 +13,5 @@ pub mod Kept
 pub mod ChangeParts
 pub mod Reads
 pub mod Causes
-pub mod RowQuestions
+pub mod Asked
 pub mod TakeLaws

@@ -2,12 +2,9 @@
 use Rattle.std.specs.Prelude.{◌≡◌, List, [], ◌∷◌, Option, Some, None, IsTrue, Result, OnOk, IfOk}
 use Rattle.sqlite.specs.State.{State, HasCleanDisk, Survives}
 use Rattle.sqlite.specs.declared.error.Error.{Error}
-use Rattle.mr_model.specs.Tables.{MetaRow}
-use Rattle.sqlite_trees.specs.Tree.{Trees}
 use Rattle.sqlite_schema.specs.declared.schema.Schema.{Schema}
 use Rattle.mr_rows.specs.Schema.{our_schema}
-use Rattle.mr_rows.specs.Form.{meta_form}
-use Rattle.mr_rows.specs.Database.{IsKept, in_order}
+use Rattle.mr_rows.specs.Database.{IsKept}
 
 -- the tables of this schema are there, and nothing is uncommitted
 pub record IsPlacedIn (under : Schema) (s : State) : Type 0 where
@@ -37,14 +34,14 @@ IsInUse s = IsKept s × IsTrue s.is_open
 abbrev pub ReadsInUse : {X : Type 0} → State → State → Result X Error → (X → Type 0) → Type 0
 ReadsInUse old new result P = ReadsWhere IsInUse old new result P
 
--- what is read of a database whose rows may be any
+-- what is read of a database of this schema whose rows may be any
+abbrev pub LooksIn : {X : Type 0} → Schema → State → State → Result X Error → (X → Type 0) → Type 0
+LooksIn under old new result P = ReadsWhere (IsPlacedIn under) old new result P
+
+-- of one of ours
 abbrev pub Looks : {X : Type 0} → State → State → Result X Error → (X → Type 0) → Type 0
-Looks old new result P = ReadsWhere IsPlaced old new result P
+Looks old new result P = LooksIn our_schema old new result P
 
 abbrev pub first_of : {X : Type 0} → List X → Option X
 first_of [] = None
 first_of (x ∷ xs) = Some x
-
--- the rows of `meta`, of which there is one at most
-abbrev pub metas_in : Trees → List MetaRow
-metas_in trees = in_order meta_form (trees 0)

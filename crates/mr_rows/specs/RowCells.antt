@@ -59,9 +59,6 @@ action_in (suc k) meeting target = OfCancel target
 abbrev pub meta_cells_of : ℕ → MetaRow → Row
 meta_cells_of schema m = Int (pos 1) ∷ Int (pos schema) ∷ Int (pos m.server) ∷ Int (pos m.primary) ∷ Int (pos m.commits) ∷ Int (pos m.dropped) ∷ Int (pos m.clock) ∷ []
 
-abbrev pub meta_cells : MetaRow → Row
-meta_cells m = meta_cells_of 2 m
-
 abbrev pub meta_in : Row → MetaRow
 meta_in r = record {
   server = nat_of (column r 3);

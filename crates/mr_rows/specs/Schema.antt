@@ -1,7 +1,7 @@
 -- The tables of the database. Each key is declared so that no column is another name of the rowid.
 -- Those of the first schema come first, `write_log` and `undo` among them, which have no rows in the second: so a database that moved up
 -- from the first schema has the tables of one that was made anew.
-use Rattle.std.specs.Prelude.{true, false, List, [], ◌∷◌, None, codes, ℕ}
+use Rattle.std.specs.Prelude.{◌≡◌, ◌⊎◌, true, false, List, [], ◌∷◌, None, codes, ℕ}
 use Rattle.sqlite.specs.Collation.TheVariants.{Binary}
 use Rattle.sqlite.specs.declared.types.Value.TheVariants.{Null}
 use Rattle.sqlite.specs.Kind.{Kind}
@@ -165,3 +165,7 @@ with_cancelled = created with_log cancelled_table
 
 abbrev pub our_schema : Schema
 our_schema = created with_cancelled cancel_table
+
+-- ours, or the first
+abbrev pub IsOfTwo : Schema → Type 0
+IsOfTwo under = (under ≡ our_schema) ⊎ (under ≡ first_schema)

@@ -7,7 +7,7 @@ ghost use Rattle.mr_rows.specs.RowCells.{nat_of, whole_of, log_in, place_in};
 ghost use Rattle.mr_rows.specs.RowLimits.{is_choices};
 ghost use Rattle.mr_rows.specs.CellLimits.{is_number, is_text, is_empty_text, is_place_cell, are_meeting_cells, are_target_cells, are_action_cells};
 
-use crate::cells::{has_id, has_number, has_title, read_id, read_number, read_place, read_title};
+use crate::cells::{has_number, has_title, read_id, read_number, read_place, read_title};
 use crate::choices::{has_choices, read_choices};
 use mr_base::{MINUTES_OF_A_DAY, WriteId};
 use mr_replay::Place;

@@ -6,10 +6,9 @@ ghost use Rattle.mr_rows.specs.Shown.{AreStoredAs, AreOurRows};
 ghost use Rattle.mr_rows.specs.Reads.{ReadsKept};
 ghost use Rattle.mr_rows.specs.Causes.{FailsByStore};
 
-use crate::found::find_all;
+use crate::found::{FoundRows, find_all};
 use crate::idle::Idle;
-use crate::meta_row::the_meta;
-use crate::whole::all_rows;
+use crate::meta_table::the_meta;
 use mr_base::RoomName;
 use mr_tables::{MetaRow, Tables, VectorRow};
 use sqlite::{Alter, Error};
@@ -26,10 +25,18 @@ pub fn read_heads<S: Alter>(
     ensures cause { FailsByStore (λ trees. AreStoredAs meta_form trees × (length (trees 0) ≡ 1) × AreStoredAs room_form trees × AreStoredAs vector_form trees)
         (state S.Store conn.old) (state S.Store conn.new) result }
 {
-    let meta = the_meta(conn)?;
-    let room = all_rows(conn, alloc)?;
-    let vector = all_rows(conn, alloc)?;
-    Ok((meta, room, vector))
+    let meta = the_meta(conn, 2)?;
+    let rows = <(Vec<RoomName>, Vec<VectorRow>) as FoundRows>::find(conn, alloc, true)?;
+    Ok((meta, rows.0, rows.1))
+}
+
+/// The known rooms.
+pub fn read_rooms<S: Alter>(conn: &mut Idle<S>, alloc: Global) -> Result<Vec<RoomName>, Error>
+    ensures reads { ReadsKept (state S.Store conn.old) (state S.Store conn.new) result
+        (λ rooms. rooms.items ≡ (tables_in (state S.Store conn.old).now.trees).room) }
+    ensures cause { FailsByStore (AreStoredAs room_form) (state S.Store conn.old) (state S.Store conn.new) result }
+{
+    <Vec<RoomName> as FoundRows>::find(conn, alloc, true)
 }
 
 /// All tables. Each row is tested as it is read.

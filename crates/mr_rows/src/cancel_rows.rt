@@ -1,8 +1,8 @@
 ghost use Rattle.std.specs.Prelude.{◌≡◌, ◌≢◌, ◌∷◌, false, IfOk, IfErr, IsTrue, refl};
 ghost use Rattle.sqlite_value.specs.declared.value.Value.TheVariants.{Null};
 ghost use Rattle.mr_model.specs.Writes.{Id};
-ghost use Rattle.mr_model.specs.Queries.{cancelled_id, cancel_id};
-ghost use Rattle.mr_base.specs.Ids.{id_cmp};
+ghost use Rattle.mr_tables.specs.TableOrders.{id_order};
+ghost use Rattle.mr_rows.specs.Schema.{our_schema};
 ghost use Rattle.mr_rows.specs.RowCells.{cancel_row_from};
 ghost use Rattle.mr_rows.specs.CellLimits.{are_cancel_cells};
 ghost use Rattle.mr_rows.specs.Form.{cancelled_form, cancel_form};
@@ -13,26 +13,13 @@ use crate::cells::{
     has_commit, has_id, has_mark, has_name, has_time, passes, read_commit, read_id, read_mark,
     read_name, read_time,
 };
-use crate::found::take_rows;
-use crate::idle::Idle;
-use crate::numbers::Number;
 use crate::puts::{day_text, parts_of, put_cancel_cells, put_cancelled_cells};
-use crate::queries::ask;
 use crate::slot_cells::{has_cancelled, read_cancelled};
-use crate::stored_rows::{FoundRow, RequestRow, StoredRow};
-use crate::table_rows::compare_ids;
-use mr_base::{RoomName, WriteId};
+use crate::stored_rows::{OurRow, RequestRow, StoredRow};
+use mr_base::WriteId;
 use mr_tables::{CancelRow, CancelledRow};
 use sqlite::{Alter, Error, ErrorCode, Row, Transaction, params};
 use std::alloc::Global;
-use std::cmp::Ordering;
-
-// The texts that ask for all rows of a table.
-
-const ALL_CANCELLED: &str =
-    "SELECT room, day, start, stop, server, n, title, committed, bserver, bn FROM cancelled";
-
-const ALL_CANCELS: &str = "SELECT server, n, room, tserver, tn, done, tm, seq FROM cancel";
 
 // The columns are counted from 0, in the order of the table.
 
@@ -41,11 +28,11 @@ impl StoredRow for CancelledRow {
 
     ghost form = { cancelled_form };
 
-    ghost order = { λ a b. id_cmp (cancelled_id a) (cancelled_id b) };
+    ghost stands_in = { λ under. under ≡ our_schema };
 
-    ghost rows_of = { λ t. t.cancelled };
-
-    ghost put_in = { put_cancelled };
+    fn all() -> &'static str {
+        "SELECT room, day, start, stop, server, n, title, committed, bserver, bn FROM cancelled"
+    }
 
     fn read(alloc: Global, row: &Row) -> Result<CancelledRow, Error> {
         read_cancelled(alloc, row)
@@ -55,38 +42,24 @@ impl StoredRow for CancelledRow {
         passes(has_cancelled(row))
     }
 
-    fn compare(a: &CancelledRow, b: &CancelledRow) -> Ordering {
-        compare_ids((a.server, a.n), (b.server, b.n))
-    }
+    ghost shown_as = { λ r. refl };
 
-    fn keeps_order() {}
+    ghost order = { id_order };
 
-    fn select_all<S: Alter>(conn: &mut Idle<S>) -> Result<Vec<Row>, Error> {
-        ask(conn, ALL_CANCELLED, &[])
-    }
+    ghost ordered = { λ a b. refl };
+}
+
+impl OurRow for CancelledRow {
+    ghost put_in = { put_cancelled };
 
     fn put<S: Alter>(&self, tx: &mut Transaction<'_, S>, alloc: Global) -> Result<usize, Error> {
         let day = day_text(alloc, self.day)?;
         put_cancelled_cells(tx, self, &day, parts_of(self.by))
     }
 
-    ghost stored_is = { λ r is. is };
-
-    ghost shown_is = { λ r is. is };
-
     ghost put_none = { λ t. refl };
 
     ghost put_more = { λ x xs t. refl };
-}
-
-impl FoundRow for CancelledRow {
-    fn find<S: Alter>(
-        conn: &mut Idle<S>,
-        alloc: Global,
-        keep: bool,
-    ) -> Result<Vec<CancelledRow>, Error> {
-        take_rows(conn, alloc, ALL_CANCELLED, keep)
-    }
 }
 
 impl RequestRow for CancelledRow {
@@ -109,11 +82,11 @@ impl StoredRow for CancelRow {
 
     ghost form = { cancel_form };
 
-    ghost order = { λ a b. id_cmp (cancel_id a) (cancel_id b) };
+    ghost stands_in = { λ under. under ≡ our_schema };
 
-    ghost rows_of = { λ t. t.cancels };
-
-    ghost put_in = { put_cancels };
+    fn all() -> &'static str {
+        "SELECT server, n, room, tserver, tn, done, tm, seq FROM cancel"
+    }
 
     fn read(alloc: Global, row: &Row) -> Result<CancelRow, Error> {
         read_cancel(alloc, row)
@@ -123,39 +96,23 @@ impl StoredRow for CancelRow {
         passes(has_cancel(row))
     }
 
-    fn compare(a: &CancelRow, b: &CancelRow) -> Ordering {
-        compare_ids((a.server, a.n), (b.server, b.n))
-    }
+    ghost shown_as = { λ r. refl };
 
-    fn keeps_order() {}
+    ghost order = { id_order };
 
-    fn select_all<S: Alter>(conn: &mut Idle<S>) -> Result<Vec<Row>, Error> {
-        ask(conn, ALL_CANCELS, &[])
-    }
+    ghost ordered = { λ a b. refl };
+}
+
+impl OurRow for CancelRow {
+    ghost put_in = { put_cancels };
 
     fn put<S: Alter>(&self, tx: &mut Transaction<'_, S>, _alloc: Global) -> Result<usize, Error> {
-        let time = Number::new(self.time, 6)?;
-        let seq = Number::new(self.seq, 7)?;
-        put_cancel_cells(tx, self, parts_of(self.target), time, seq)
+        put_cancel_cells(tx, self, parts_of(self.target))
     }
-
-    ghost stored_is = { λ r is. is };
-
-    ghost shown_is = { λ r is. is };
 
     ghost put_none = { λ t. refl };
 
     ghost put_more = { λ x xs t. refl };
-}
-
-impl FoundRow for CancelRow {
-    fn find<S: Alter>(
-        conn: &mut Idle<S>,
-        alloc: Global,
-        keep: bool,
-    ) -> Result<Vec<CancelRow>, Error> {
-        take_rows(conn, alloc, ALL_CANCELS, keep)
-    }
 }
 
 fn read_cancel(alloc: Global, row: &Row) -> Result<CancelRow, Error>

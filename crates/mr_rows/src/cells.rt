@@ -31,7 +31,7 @@ fn broken(refusal: Refusal, at: usize) -> Error
 }
 
 /// Nothing, if a row passed its test.
-pub(crate) fn passes(passed: bool) -> Result<(), Error>
+pub fn passes(passed: bool) -> Result<(), Error>
     ensures ok { OnOk result (IsTrue passed) }
     ensures refused { IfErr result (λ _. passed ≡ false) }
 {
@@ -71,7 +71,7 @@ pub fn read_name(alloc: Global, row: &Row, at: usize) -> Result<RoomName, Error>
 }
 
 /// Whether this column has the name of a room.
-pub(crate) fn has_name(row: &Row, at: usize) -> bool
+pub fn has_name(row: &Row, at: usize) -> bool
     ensures { result ≡ is_text is_room_name (column row.now at) }
 {
     match row.get_ref(at) {
@@ -94,7 +94,7 @@ pub fn read_title(alloc: Global, row: &Row, at: usize) -> Result<Title, Error>
 }
 
 /// Whether this column has a title.
-pub(crate) fn has_title(row: &Row, at: usize) -> bool
+pub fn has_title(row: &Row, at: usize) -> bool
     ensures { result ≡ is_text is_title (column row.now at) }
 {
     match row.get_ref(at) {
@@ -132,7 +132,7 @@ fn is_between(number: i64, low: u64, high: u64) -> bool
 }
 
 /// Whether this column has a number from `low` to `high`.
-pub(crate) fn has_number(row: &Row, at: usize, low: u64, high: u64) -> bool
+pub fn has_number(row: &Row, at: usize, low: u64, high: u64) -> bool
     ensures { result ≡ is_number low high (column row.now at) }
 {
     match row.get_ref(at) {
@@ -215,7 +215,7 @@ pub fn read_time(row: &Row, at: usize) -> Result<u64, Error>
 }
 
 /// Whether this column has the time of a write.
-pub(crate) fn has_time(row: &Row, at: usize) -> bool
+pub fn has_time(row: &Row, at: usize) -> bool
     ensures { result ≡ is_time_cell (column row.now at) }
 {
     has_number(row, at, 1, GREATEST_TIME)
@@ -232,7 +232,7 @@ pub fn read_commit(row: &Row, at: usize) -> Result<u64, Error>
 }
 
 /// Whether this column has the number of a commit, or 0.
-pub(crate) fn has_commit(row: &Row, at: usize) -> bool
+pub fn has_commit(row: &Row, at: usize) -> bool
     ensures { result ≡ is_commit_cell (column row.now at) }
 {
     has_number(row, at, 0, GREATEST_COMMIT)
@@ -253,7 +253,7 @@ pub fn read_id(row: &Row, at: usize) -> Result<WriteId, Error>
 }
 
 /// Whether this column and the next have an id.
-pub(crate) fn has_id(row: &Row, at: usize) -> bool
+pub fn has_id(row: &Row, at: usize) -> bool
     requires at { at < 100 }
     ensures { result ≡ is_id_cells (column row.now at) (column row.now (at + 1)) }
 {

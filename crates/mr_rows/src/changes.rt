@@ -7,7 +7,7 @@ ghost use Rattle.mr_rows.specs.ChangeParts.{board_taken, rows_taken, heads_put, 
 
 use crate::idle::Idle;
 use crate::puts::put_meta;
-use crate::stored_rows::{RequestRow, StoredRow};
+use crate::stored_rows::{OurRow, RequestRow};
 use mr_base::{RoomName, WriteId};
 use mr_tables::{BookingRow, CancelRow, CancelledRow, Change, ErrorRow, LogRow, VectorRow};
 use sqlite::{Alter, Error, Transaction};
@@ -29,7 +29,7 @@ fn take_all<R: RequestRow, S: Alter>(
 }
 
 /// Puts the rows, one after the other.
-pub fn put_all<R: StoredRow, S: Alter>(
+pub fn put_all<R: OurRow, S: Alter>(
     tx: &mut Transaction<'_, S>,
     alloc: Global,
     rows: &[R],

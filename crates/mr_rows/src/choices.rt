@@ -82,7 +82,7 @@ fn are_choices(text: &[u8], length: u32) -> bool
 }
 
 /// Whether this column has choices of this length.
-pub(crate) fn has_choices(row: &Row, at: usize, length: u32) -> bool
+pub fn has_choices(row: &Row, at: usize, length: u32) -> bool
     requires { length ≤ 1440 }
     ensures { result ≡ is_text (is_choices length) (column row.now at) }
 {

@@ -1,52 +1,26 @@
-ghost use Rattle.std.specs.Prelude.{◌≡◌, ◌≢◌, [], ◌∷◌, ◌++◌, ◌≤◌, length, map, IfOk, IfErr, OnOk, IsTrue, ⊤};
-ghost use Rattle.std.specs.List.{All};
+ghost use Rattle.std.specs.Prelude.{◌≡◌, ◌≢◌, [], ◌∷◌, ◌++◌, ◌≤◌, ℕ, length, map, IfErr, OnOk, IsTrue, ⊤};
 ghost use Rattle.sqlite_value.specs.declared.value.Value.TheVariants.{Null};
-ghost use Rattle.sqlite.specs.Given.{IsPlain};
-ghost use Rattle.sqlite.specs.Listing.{understood};
+ghost use Rattle.sqlite_trees.specs.Tree.{Trees};
+ghost use Rattle.sqlite_schema.specs.declared.schema.Schema.{Schema};
 ghost use Rattle.sqlite.specs.Held.{state};
 ghost use Rattle.mr_rows.specs.Schema.{our_schema};
-ghost use Rattle.mr_rows.specs.RowCells.{meta_in};
-ghost use Rattle.mr_rows.specs.Form.{meta_form};
-ghost use Rattle.mr_rows.specs.Shown.{IsShownSo, IsShownAs, AreStoredAs, AreOurRows, IsMeta, listed};
-ghost use Rattle.mr_rows.specs.Kept.{AreTaken, AreFound, AreAllFound};
-ghost use Rattle.mr_rows.specs.Reads.{Looks};
-ghost use Rattle.mr_rows.specs.Causes.{FailsByStore, IsSure, ShowsOnly};
+ghost use Rattle.mr_rows.specs.Shown.{IsShownAs, AreStoredAs, AreOurRows};
+ghost use Rattle.mr_rows.specs.Kept.{AreTested, AreRowsOf, AreAllFound};
+ghost use Rattle.mr_rows.specs.Reads.{Looks, LooksIn};
+ghost use Rattle.mr_rows.specs.Causes.{FailsByStoreIn, FailsByStore, AsksAll};
 
 use crate::idle::Idle;
-use crate::meta_row::read_meta;
+use crate::meta_table::find_meta;
 use crate::order::sort_rows;
-use crate::queries::{select_all_meta, select_all_undo, select_all_write_log};
-use crate::stored_rows::{FoundRow, StoredRow};
+use crate::queries::ask_all;
+use crate::stored_rows::StoredRow;
 use mr_base::RoomName;
-use mr_tables::{
-    BookingRow, CancelRow, CancelledRow, ErrorRow, LogRow, MetaRow, Tables, VectorRow,
-};
+use mr_tables::{BookingRow, CancelRow, CancelledRow, ErrorRow, LogRow, Tables, VectorRow};
 use sqlite::{Alter, Error, ErrorCode, Row};
 use std::alloc::Global;
 
 // One pass over all rows of all tables tests each, so that a row that breaks the table's rules or the limits is found. They come one at a time, and
 // are read if they are to be kept; else nothing is made of them.
-
-fn only_meta(rows: &[Row]) -> Result<Option<MetaRow>, Error>
-    ensures whole { OnOk result (All (IsShownAs meta_form) rows.now) }
-    ensures row { IfOk result (λ m. map (λ row. meta_in (Null ∷ row)) rows.now ≡ listed m) }
-    ensures refused { IfErr result (λ _. length rows.now ≤ 1 → ¬ All (IsShownAs meta_form) rows.now) }
-{
-    match rows {
-        [] => Ok(None),
-        [row] => Ok(Some(read_meta(row)?)),
-        _ => Err(Error::InvalidQuery),
-    }
-}
-
-fn find_meta<S: Alter>(conn: &mut Idle<S>) -> Result<Option<MetaRow>, Error>
-    ensures looks { Looks (state S.Store conn.old) (state S.Store conn.new) result
-        (λ m. AreStoredAs meta_form (state S.Store conn.old).now.trees × IsMeta (state S.Store conn.old).now.trees m) }
-    ensures cause { FailsByStore (λ trees. AreStoredAs meta_form trees × (length (trees 0) ≤ 1)) (state S.Store conn.old) (state S.Store conn.new) result }
-{
-    let rows = select_all_meta(conn)?;
-    only_meta(&rows)
-}
 
 /// Takes a row that a query shows: it is tested, and if it is to be kept it is read and put behind those that are there.
 fn take_row<R: StoredRow>(
@@ -66,18 +40,17 @@ fn take_row<R: StoredRow>(
     Ok(())
 }
 
-/// Takes the rows, one after the other, that a text shows which means a query under our schema.
-pub(crate) fn take_rows<R: StoredRow, S: Alter>(
+/// Takes the rows, one after the other, that a text shows which asks for all rows of the table.
+fn take_rows<R: StoredRow, S: Alter>(
     conn: &mut Idle<S>,
     alloc: Global,
     sql: &str,
     keep: bool,
 ) -> Result<Vec<R>, Error>
-    requires plain { IsPlain (understood our_schema sql.now) }
-    requires sure { IsSure sql.now [] }
-    ensures looks { Looks (state S.Store conn.old) (state S.Store conn.new) result
-        (λ out. IsShownSo (AreTaken R.form keep out.items) sql.now [] (state S.Store conn.old) (state S.Store conn.new)) }
-    ensures cause { ShowsOnly (IsShownAs R.form) sql.now [] (state S.Store conn.old) → FailsByStore (λ _. ⊤) (state S.Store conn.old) (state S.Store conn.new) result }
+    ensures looks { (under : Schema) → AsksAll under R.form.table.tree (length R.form.table.columns) sql.now
+        → LooksIn under (state S.Store conn.old) (state S.Store conn.new) result (λ out. AreTested R.form keep (state S.Store conn.old).now.trees out.items) }
+    ensures cause { (under : Schema) → AsksAll under R.form.table.tree (length R.form.table.columns) sql.now
+        → FailsByStoreIn under (AreStoredAs R.form) (state S.Store conn.old) (state S.Store conn.new) result }
 {
     let mut out = Vec::new(alloc);
     let mut rows = conn.connection.query(sql, &[])?;
@@ -92,36 +65,50 @@ pub(crate) fn take_rows<R: StoredRow, S: Alter>(
     Err(Error::SqliteFailure(ErrorCode::OutOfMemory))
 }
 
-/// Tests all rows of a table. Those that are kept stand in the order of their keys.
-fn find_rows<R: FoundRow, S: Alter>(
-    conn: &mut Idle<S>,
-    alloc: Global,
-    keep: bool,
-) -> Result<Vec<R>, Error>
-    ensures looks { Looks (state S.Store conn.old) (state S.Store conn.new) result
-        (λ rows. AreFound R.form R.rows_of keep (state S.Store conn.old).now.trees rows.items) }
-    ensures cause { FailsByStore (AreStoredAs R.form) (state S.Store conn.old) (state S.Store conn.new) result }
-{
-    R::keeps_order();
-    let mut rows = R::find(conn, alloc, keep)?;
-    sort_rows(&mut rows)?;
-    Ok(rows)
+/// Rows of one table, or of several.
+pub trait FoundRows: Drop {
+    // which schemas have the tables
+    ghost stand_in: { Schema → Type 0 };
+
+    // each row keeps the rules of its table, and the limits
+    ghost are_stored: { Trees → Type 0 };
+
+    // these are the rows, of each table in the order of its keys
+    ghost are_all: { Trees → Self → Type 0 };
+
+    /// Finds that each row keeps the rules and the limits, and answers the rows if they are to be kept.
+    fn find<S: Alter>(conn: &mut Idle<S>, alloc: Global, keep: bool) -> Result<Self, Error>
+        ensures looks { (under : Schema) → stand_in under → LooksIn under (state S.Store conn.old) (state S.Store conn.new) result
+            (λ found. are_stored (state S.Store conn.old).now.trees × (IsTrue keep → are_all (state S.Store conn.old).now.trees found)) }
+        ensures cause { (under : Schema) → stand_in under → FailsByStoreIn under are_stored (state S.Store conn.old) (state S.Store conn.new) result };
 }
 
-// The same of two tables.
-fn find_two<A: FoundRow, B: FoundRow, S: Alter>(
-    conn: &mut Idle<S>,
-    alloc: Global,
-    keep: bool,
-) -> Result<(Vec<A>, Vec<B>), Error>
-    ensures looks { Looks (state S.Store conn.old) (state S.Store conn.new) result
-        (λ rows. AreFound A.form A.rows_of keep (state S.Store conn.old).now.trees rows.0.items
-        × AreFound B.form B.rows_of keep (state S.Store conn.old).now.trees rows.1.items) }
-    ensures cause { FailsByStore (λ trees. AreStoredAs A.form trees × AreStoredAs B.form trees) (state S.Store conn.old) (state S.Store conn.new) result }
-{
-    let first = find_rows::<A, S>(conn, alloc, keep)?;
-    let second = find_rows::<B, S>(conn, alloc, keep)?;
-    Ok((first, second))
+impl<R: StoredRow> FoundRows for Vec<R> {
+    ghost stand_in = { R.stands_in };
+
+    ghost are_stored = { AreStoredAs R.form };
+
+    ghost are_all = { λ trees rows. AreRowsOf R.form trees rows.items };
+
+    fn find<S: Alter>(conn: &mut Idle<S>, alloc: Global, keep: bool) -> Result<Vec<R>, Error> {
+        let mut rows = take_rows::<R, S>(conn, alloc, R::all(), keep)?;
+        sort_rows(&mut rows)?;
+        Ok(rows)
+    }
+}
+
+impl<A: FoundRows, B: FoundRows> FoundRows for (A, B) {
+    ghost stand_in = { λ under. A.stand_in under × B.stand_in under };
+
+    ghost are_stored = { λ trees. A.are_stored trees × B.are_stored trees };
+
+    ghost are_all = { λ trees found. A.are_all trees found.0 × B.are_all trees found.1 };
+
+    fn find<S: Alter>(conn: &mut Idle<S>, alloc: Global, keep: bool) -> Result<(A, B), Error> {
+        let first = A::find(conn, alloc, keep)?;
+        let second = B::find(conn, alloc, keep)?;
+        Ok((first, second))
+    }
 }
 
 fn are_none(rows: &[Row]) -> Result<(), Error>
@@ -134,33 +121,40 @@ fn are_none(rows: &[Row]) -> Result<(), Error>
     }
 }
 
-// That `write_log` has no row.
-fn find_no_writes<S: Alter>(conn: &mut Idle<S>) -> Result<(), Error>
-    ensures looks { Looks (state S.Store conn.old) (state S.Store conn.new) result (λ _. (state S.Store conn.old).now.trees 6 ≡ []) }
-    ensures cause { FailsByStore (λ trees. trees 6 ≡ []) (state S.Store conn.old) (state S.Store conn.new) result }
+// That a table has no row, by a text that asks for all of them.
+fn find_none<S: Alter>(conn: &mut Idle<S>, sql: &str) -> Result<(), Error>
+    ensures looks { (under : Schema) (tree n : ℕ) → AsksAll under tree n sql.now
+        → LooksIn under (state S.Store conn.old) (state S.Store conn.new) result (λ _. (state S.Store conn.old).now.trees tree ≡ []) }
+    ensures cause { (under : Schema) (tree n : ℕ) → AsksAll under tree n sql.now
+        → FailsByStoreIn under (λ trees. trees tree ≡ []) (state S.Store conn.old) (state S.Store conn.new) result }
 {
-    let rows = select_all_write_log(conn)?;
+    let rows = ask_all(conn, sql)?;
     are_none(&rows)
 }
 
-// That `undo` has no row.
-fn find_no_undo<S: Alter>(conn: &mut Idle<S>) -> Result<(), Error>
-    ensures looks { Looks (state S.Store conn.old) (state S.Store conn.new) result (λ _. (state S.Store conn.old).now.trees 8 ≡ []) }
-    ensures cause { FailsByStore (λ trees. trees 8 ≡ []) (state S.Store conn.old) (state S.Store conn.new) result }
-{
-    let rows = select_all_undo(conn)?;
-    are_none(&rows)
+/// The rows of the first schema's logs, of which ours has none.
+#[derive(Drop)]
+struct NoOldLogs {}
+
+impl FoundRows for NoOldLogs {
+    ghost stand_in = { λ under. under ≡ our_schema };
+
+    ghost are_stored = { λ trees. (trees 6 ≡ []) × (trees 8 ≡ []) };
+
+    ghost are_all = { λ _ _. ⊤ };
+
+    fn find<S: Alter>(conn: &mut Idle<S>, _alloc: Global, _keep: bool) -> Result<NoOldLogs, Error> {
+        find_none(conn, "SELECT server FROM write_log")?;
+        find_none(conn, "SELECT server FROM undo")?;
+        Ok(NoOldLogs {})
+    }
 }
 
-// That the logs of the first schema have no row.
-fn find_no_old_logs<S: Alter>(conn: &mut Idle<S>) -> Result<(), Error>
-    ensures looks { Looks (state S.Store conn.old) (state S.Store conn.new) result
-        (λ _. ((state S.Store conn.old).now.trees 6 ≡ []) × ((state S.Store conn.old).now.trees 8 ≡ [])) }
-    ensures cause { FailsByStore (λ trees. (trees 6 ≡ []) × (trees 8 ≡ [])) (state S.Store conn.old) (state S.Store conn.new) result }
-{
-    find_no_writes(conn)?;
-    find_no_undo(conn)
-}
+type Heads = (Vec<RoomName>, Vec<VectorRow>);
+
+type Board = (Vec<BookingRow>, Vec<ErrorRow>);
+
+type Cancels = (Vec<CancelledRow>, Vec<CancelRow>);
 
 /// Finds the row of `meta`, if there is one, and that all rows of all tables keep the tables' rules and the limits. It answers the tables
 /// that `meta` is of, with all their rows if these are to be kept, and with no others if not.
@@ -172,22 +166,20 @@ pub fn find_all<S: Alter>(
     ensures looks { Looks (state S.Store conn.old) (state S.Store conn.new) result (AreAllFound keep (state S.Store conn.old).now.trees) }
     ensures cause { FailsByStore (λ trees. AreOurRows trees × (length (trees 0) ≤ 1)) (state S.Store conn.old) (state S.Store conn.new) result }
 {
-    let heads = find_two::<RoomName, VectorRow, S>(conn, alloc, keep)?;
-    let log = find_rows::<LogRow, S>(conn, alloc, keep)?;
-    let board = find_two::<BookingRow, ErrorRow, S>(conn, alloc, keep)?;
-    let cancels = find_two::<CancelledRow, CancelRow, S>(conn, alloc, keep)?;
-    find_no_old_logs(conn)?;
-    match find_meta(conn)? {
+    let rows = <((Heads, Vec<LogRow>), (Board, (Cancels, NoOldLogs))) as FoundRows>::find(
+        conn, alloc, keep,
+    )?;
+    match find_meta(conn, 2)? {
         None => Ok(None),
         Some(meta) => Ok(Some(Tables {
             meta,
-            room: heads.0,
-            vector: heads.1,
-            log,
-            booking: board.0,
-            errorlog: board.1,
-            cancelled: cancels.0,
-            cancels: cancels.1,
+            room: rows.0.0.0,
+            vector: rows.0.0.1,
+            log: rows.0.1,
+            booking: rows.1.0.0,
+            errorlog: rows.1.0.1,
+            cancelled: rows.1.1.0.0,
+            cancels: rows.1.1.0.1,
         })),
     }
 }

@@ -7,6 +7,7 @@ ghost use Rattle.mr_rows.specs.TableLimits.{LimitsAreKept, HeldRowsAreOurs};
 
 mod actions;
 pub mod all_tables;
+pub mod asked_rows;
 mod cancel_rows;
 pub mod cells;
 pub mod changes;
@@ -14,6 +15,7 @@ pub mod choices;
 pub mod found;
 mod idle;
 pub mod meta_row;
+pub mod meta_table;
 pub mod numbers;
 mod order;
 pub mod puts;
@@ -21,12 +23,9 @@ pub mod queries;
 mod slot_cells;
 mod stored_rows;
 mod table_rows;
-mod whole;
 
 pub use idle::Idle;
-pub use stored_rows::{StoredRow, read_all};
-pub use table_rows::compare_ids;
-pub use whole::all_rows;
+pub use stored_rows::{OurRow, StoredRow, read_all};
 
 /// The rows of a replica's tables are within the limits for which each row is tested, so that none is refused.
 pub fn limits_law()

@@ -1,33 +1,17 @@
-ghost use Rattle.std.specs.Prelude.{◌≡◌, ◌∷◌, false, length, map, IfOk, IfErr, IsTrue, Some, ⊤};
+ghost use Rattle.std.specs.Prelude.{◌≡◌, ◌∷◌, false, map, IfOk, IfErr, IsTrue, Some};
 ghost use Rattle.sqlite_value.specs.declared.value.Value.TheVariants.{Null};
-ghost use Rattle.sqlite.specs.Held.{state};
-ghost use Rattle.mr_rows.specs.RowCells.{meta_in, meta_cells, meta_cells_of};
+ghost use Rattle.mr_rows.specs.RowCells.{meta_in, meta_cells_of};
 ghost use Rattle.mr_rows.specs.RowLimits.{is_meta_row};
 ghost use Rattle.mr_rows.specs.CellLimits.{are_meta_cells};
-ghost use Rattle.mr_rows.specs.Form.{meta_form};
-ghost use Rattle.mr_rows.specs.Database.{tables_in};
-ghost use Rattle.mr_rows.specs.Reads.{ReadsKept, Looks, first_of};
-ghost use Rattle.mr_rows.specs.Shown.{columns_from, IsShownAs, AreStoredAs};
-ghost use Rattle.mr_rows.specs.Causes.{FailsByStore};
+ghost use Rattle.mr_rows.specs.Reads.{first_of};
+ghost use Rattle.mr_rows.specs.Shown.{columns_from};
 
 use crate::cells::{has_number, read_commit, read_number, read_server};
-use crate::idle::Idle;
-use crate::queries::select_all_meta;
 use mr_base::GREATEST_TIME;
 use mr_tables::MetaRow;
-use sqlite::{Alter, Error, Row};
+use sqlite::{Error, Row};
 
-/// The row of `meta`; its columns are counted from 0.
-pub(crate) fn read_meta(row: &Row) -> Result<MetaRow, Error>
-    ensures row { IfOk result (λ r. r ≡ meta_in (Null ∷ row.now)) }
-    ensures cells { IfOk result (λ r. meta_cells r ≡ columns_from 0 7 row.now) }
-    ensures within { IfOk result (λ r. IsTrue (is_meta_row r)) }
-    ensures refused { IfErr result (λ _. ¬ IsShownAs meta_form row.now) }
-{
-    read_meta_of(row, 2)
-}
-
-/// That of the schema of this number.
+/// The row of `meta` of the schema of this number; its columns are counted from 0.
 pub fn read_meta_of(row: &Row, schema: u32) -> Result<MetaRow, Error>
     ensures row { IfOk result (λ r. r ≡ meta_in (Null ∷ row.now)) }
     ensures cells { IfOk result (λ r. meta_cells_of schema r ≡ columns_from 0 7 row.now) }
@@ -60,14 +44,4 @@ pub fn first_meta(rows: &[Row], schema: u32) -> Result<MetaRow, Error>
         None => Err(Error::QueryReturnedNoRows),
         Some(row) => read_meta_of(row, schema),
     }
-}
-
-/// The row of `meta`.
-pub(crate) fn the_meta<S: Alter>(conn: &mut Idle<S>) -> Result<MetaRow, Error>
-    ensures reads { ReadsKept (state S.Store conn.old) (state S.Store conn.new) result (λ row. row ≡ (tables_in (state S.Store conn.old).now.trees).meta) }
-    ensures looks { Looks (state S.Store conn.old) (state S.Store conn.new) result (λ _. ⊤) }
-    ensures cause { FailsByStore (λ trees. AreStoredAs meta_form trees × (length (trees 0) ≡ 1)) (state S.Store conn.old) (state S.Store conn.new) result }
-{
-    let rows = select_all_meta(conn)?;
-    first_meta(&rows, 2)
 }

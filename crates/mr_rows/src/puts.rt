@@ -5,44 +5,13 @@ ghost use Rattle.mr_model.specs.Calendar.{is_date, date_text};
 ghost use Rattle.sqlite_value.specs.declared.value.Value.TheVariants.{Int, Text};
 ghost use Rattle.mr_rows.specs.RowCells.{action_row};
 ghost use Rattle.mr_rows.specs.Database.{MakesTables, tables_in};
-ghost use Rattle.mr_rows.specs.ChangeParts.{put_meta as with_meta, put_vector, put_logs, put_bookings, put_errors, put_cancelled, put_cancels};
+ghost use Rattle.mr_rows.specs.ChangeParts.{put_meta as with_meta, put_logs, put_bookings, put_errors, put_cancelled, put_cancels};
 
 use crate::numbers::{Number, PlaceNumber};
 use mr_base::{Day, WriteId};
-use mr_tables::{
-    ActionCells, BookingRow, CancelRow, CancelledRow, ErrorRow, LogRow, MetaRow, VectorRow,
-};
+use mr_tables::{ActionCells, BookingRow, CancelRow, CancelledRow, ErrorRow, LogRow, MetaRow};
 use sqlite::{Alter, Error, Transaction, params};
 use std::alloc::Global;
-
-fn put_meta_cells<S: Alter>(
-    tx: &mut Transaction<'_, S>,
-    row: &MetaRow,
-    commits: Number,
-    dropped: Number,
-    clock: Number,
-) -> Result<usize, Error>
-    requires commits { commits.value ≡ row.now.commits }
-    requires dropped { dropped.value ≡ row.now.dropped }
-    requires clock { clock.value ≡ row.now.clock }
-    ensures same_reference { tx.new.conn.ghost_name ≡ tx.old.conn.ghost_name }
-    ensures put { MakesTables (state S.Store tx.old.conn.now) (state S.Store tx.new.conn.now)
-        (with_meta row.now (tables_in (state S.Store tx.old.conn.now).now.trees)) result }
-    ensures survives { Survives (state S.Store tx.old.conn.now) (state S.Store tx.new.conn.now) (λ _. ⊥) }
-{
-    tx.execute(
-        "INSERT OR REPLACE INTO meta (one, schema, server, prim, commits, dropped, clock) VALUES (?1, ?2, ?3, ?4, ?5, ?6, ?7)",
-        params![
-            1u32,
-            2u32,
-            row.server.number(),
-            row.primary.number(),
-            commits,
-            dropped,
-            clock
-        ],
-    )
-}
 
 /// Puts the row of `meta`.
 pub fn put_meta<S: Alter>(tx: &mut Transaction<'_, S>, row: &MetaRow) -> Result<usize, Error>
@@ -54,23 +23,17 @@ pub fn put_meta<S: Alter>(tx: &mut Transaction<'_, S>, row: &MetaRow) -> Result<
     let commits = Number::new(row.commits, 4)?;
     let dropped = Number::new(row.dropped, 5)?;
     let clock = Number::new(row.clock, 6)?;
-    put_meta_cells(tx, row, commits, dropped, clock)
-}
-
-pub(crate) fn put_vector_cells<S: Alter>(
-    tx: &mut Transaction<'_, S>,
-    row: &VectorRow,
-    time: Number,
-) -> Result<usize, Error>
-    requires time { time.value ≡ row.now.last_time }
-    ensures same_reference { tx.new.conn.ghost_name ≡ tx.old.conn.ghost_name }
-    ensures put { MakesTables (state S.Store tx.old.conn.now) (state S.Store tx.new.conn.now)
-        (put_vector (row.now ∷ []) (tables_in (state S.Store tx.old.conn.now).now.trees)) result }
-    ensures survives { Survives (state S.Store tx.old.conn.now) (state S.Store tx.new.conn.now) (λ _. ⊥) }
-{
     tx.execute(
-        "INSERT OR REPLACE INTO vector (server, n, tm, committed) VALUES (?1, ?2, ?3, ?4)",
-        params![row.server.number(), row.count, time, row.committed],
+        "INSERT OR REPLACE INTO meta (one, schema, server, prim, commits, dropped, clock) VALUES (?1, ?2, ?3, ?4, ?5, ?6, ?7)",
+        params![
+            1u32,
+            2u32,
+            row.server.number(),
+            row.primary.number(),
+            commits,
+            dropped,
+            clock
+        ],
     )
 }
 
@@ -191,18 +154,16 @@ pub(crate) fn put_error_cells<S: Alter>(
     tx: &mut Transaction<'_, S>,
     row: &ErrorRow,
     day: &str,
-    time: Number,
-    seq: Number,
 ) -> Result<usize, Error>
     requires day { day.now ≡ date_text row.now.day }
     requires is_date { IsTrue (is_date row.now.day) }
-    requires time { time.value ≡ row.now.time }
-    requires seq { seq.value ≡ row.now.seq }
     ensures same_reference { tx.new.conn.ghost_name ≡ tx.old.conn.ghost_name }
     ensures put { MakesTables (state S.Store tx.old.conn.now) (state S.Store tx.new.conn.now)
         (put_errors (row.now ∷ []) (tables_in (state S.Store tx.old.conn.now).now.trees)) result }
     ensures survives { Survives (state S.Store tx.old.conn.now) (state S.Store tx.new.conn.now) (λ _. ⊥) }
 {
+    let time = Number::new(row.time, 7)?;
+    let seq = Number::new(row.seq, 8)?;
     tx.execute(
         "INSERT OR REPLACE INTO errorlog (room, day, start, stop, server, n, title, tm, seq) VALUES (?1, ?2, ?3, ?4, ?5, ?6, ?7, ?8, ?9)",
         params![
@@ -254,17 +215,15 @@ pub(crate) fn put_cancel_cells<S: Alter>(
     tx: &mut Transaction<'_, S>,
     row: &CancelRow,
     target: (u32, u32),
-    time: Number,
-    seq: Number,
 ) -> Result<usize, Error>
     requires target { row.now.target ≡ record { server = target.0; n = target.1 } }
-    requires time { time.value ≡ row.now.time }
-    requires seq { seq.value ≡ row.now.seq }
     ensures same_reference { tx.new.conn.ghost_name ≡ tx.old.conn.ghost_name }
     ensures put { MakesTables (state S.Store tx.old.conn.now) (state S.Store tx.new.conn.now)
         (put_cancels (row.now ∷ []) (tables_in (state S.Store tx.old.conn.now).now.trees)) result }
     ensures survives { Survives (state S.Store tx.old.conn.now) (state S.Store tx.new.conn.now) (λ _. ⊥) }
 {
+    let time = Number::new(row.time, 6)?;
+    let seq = Number::new(row.seq, 7)?;
     tx.execute(
         "INSERT OR REPLACE INTO cancel (server, n, room, tserver, tn, done, tm, seq) VALUES (?1, ?2, ?3, ?4, ?5, ?6, ?7, ?8)",
         params![

@@ -1,10 +1,8 @@
 ghost use Rattle.std.specs.Prelude.{◌≡◌, ◌≢◌, ◌∷◌, ℕ, false, IfOk, IfErr, IsTrue, refl};
-ghost use Rattle.std.specs.Cmp.Lexicographic.{slice_cmp};
-ghost use Rattle.std.specs.Ordering.{nat_cmp};
 ghost use Rattle.mr_model.specs.Texts.{Text};
 ghost use Rattle.mr_model.specs.Writes.{Id};
-ghost use Rattle.mr_model.specs.Queries.{booking_id, error_id, log_id};
-ghost use Rattle.mr_base.specs.Ids.{id_cmp};
+ghost use Rattle.mr_tables.specs.TableOrders.{name_order, number_order, id_order};
+ghost use Rattle.mr_rows.specs.Schema.{our_schema, IsOfTwo};
 ghost use Rattle.sqlite_value.specs.declared.value.Value.TheVariants.{Null};
 ghost use Rattle.mr_rows.specs.RowCells.{vector_in, log_in};
 ghost use Rattle.mr_rows.specs.CellLimits.{are_vector_cells, are_log_cells};
@@ -17,34 +15,14 @@ use crate::cells::{
     has_commit, has_id, has_name, has_number, has_time, passes, read_commit, read_id, read_name,
     read_number, read_time,
 };
-use crate::found::take_rows;
-use crate::idle::Idle;
 use crate::numbers::Number;
-use crate::puts::{
-    LogNumbers, day_text, put_booking_cells, put_error_cells, put_log_cells, put_vector_cells,
-};
-use crate::queries::ask;
+use crate::puts::{LogNumbers, day_text, put_booking_cells, put_error_cells, put_log_cells};
 use crate::slot_cells::{has_booking, has_error, read_booking, read_error};
-use crate::stored_rows::{FoundRow, RequestRow, StoredRow};
-use mr_base::{GREATEST_COUNT, RoomName, ServerId, WriteId};
+use crate::stored_rows::{OurRow, RequestRow, StoredRow};
+use mr_base::{GREATEST_COUNT, RoomName, WriteId};
 use mr_tables::{BookingRow, ErrorRow, LogRow, VectorRow};
 use sqlite::{Alter, Error, ErrorCode, Row, Transaction, params};
 use std::alloc::Global;
-use std::cmp::Ordering;
-
-// The texts that ask for all rows of a table.
-
-const ALL_ROOMS: &str = "SELECT name FROM room";
-
-const ALL_VECTOR: &str = "SELECT server, n, tm, committed FROM vector";
-
-const ALL_LOGS: &str =
-    "SELECT server, n, tm, room, kind, length, choices, title, tserver, tn, place, seq FROM log";
-
-const ALL_BOOKINGS: &str =
-    "SELECT room, day, start, stop, server, n, title, committed FROM booking";
-
-const ALL_ERRORS: &str = "SELECT room, day, start, stop, server, n, title, tm, seq FROM errorlog";
 
 // The columns are counted from 0, in the order of the table.
 
@@ -53,11 +31,11 @@ impl StoredRow for RoomName {
 
     ghost form = { room_form };
 
-    ghost order = { slice_cmp nat_cmp };
+    ghost stands_in = { IsOfTwo };
 
-    ghost rows_of = { λ t. t.room };
-
-    ghost put_in = { put_rooms };
+    fn all() -> &'static str {
+        "SELECT name FROM room"
+    }
 
     fn read(alloc: Global, row: &Row) -> Result<RoomName, Error> {
         read_name(alloc, row, 0)
@@ -67,15 +45,15 @@ impl StoredRow for RoomName {
         passes(has_name(row, 0))
     }
 
-    fn compare(a: &RoomName, b: &RoomName) -> Ordering {
-        a.as_str().cmp(b.as_str())
-    }
+    ghost shown_as = { λ r. refl };
 
-    fn keeps_order() {}
+    ghost order = { name_order };
 
-    fn select_all<S: Alter>(conn: &mut Idle<S>) -> Result<Vec<Row>, Error> {
-        ask(conn, ALL_ROOMS, &[])
-    }
+    ghost ordered = { λ a b. refl };
+}
+
+impl OurRow for RoomName {
+    ghost put_in = { put_rooms };
 
     fn put<S: Alter>(&self, tx: &mut Transaction<'_, S>, _alloc: Global) -> Result<usize, Error> {
         tx.execute(
@@ -84,23 +62,9 @@ impl StoredRow for RoomName {
         )
     }
 
-    ghost stored_is = { λ r is. is };
-
-    ghost shown_is = { λ r is. is };
-
     ghost put_none = { λ t. refl };
 
     ghost put_more = { λ x xs t. refl };
-}
-
-impl FoundRow for RoomName {
-    fn find<S: Alter>(
-        conn: &mut Idle<S>,
-        alloc: Global,
-        keep: bool,
-    ) -> Result<Vec<RoomName>, Error> {
-        take_rows(conn, alloc, ALL_ROOMS, keep)
-    }
 }
 
 impl StoredRow for VectorRow {
@@ -108,11 +72,11 @@ impl StoredRow for VectorRow {
 
     ghost form = { vector_form };
 
-    ghost order = { λ a b. nat_cmp a.server b.server };
+    ghost stands_in = { IsOfTwo };
 
-    ghost rows_of = { λ t. t.vector };
-
-    ghost put_in = { put_vector };
+    fn all() -> &'static str {
+        "SELECT server, n, tm, committed FROM vector"
+    }
 
     fn read(_alloc: Global, row: &Row) -> Result<VectorRow, Error> {
         read_vector(row)
@@ -122,38 +86,27 @@ impl StoredRow for VectorRow {
         passes(has_vector(row))
     }
 
-    fn compare(a: &VectorRow, b: &VectorRow) -> Ordering {
-        a.server.number().cmp(&b.server.number())
-    }
+    ghost shown_as = { λ r. refl };
 
-    fn keeps_order() {}
+    ghost order = { number_order };
 
-    fn select_all<S: Alter>(conn: &mut Idle<S>) -> Result<Vec<Row>, Error> {
-        ask(conn, ALL_VECTOR, &[])
-    }
+    ghost ordered = { λ a b. refl };
+}
+
+impl OurRow for VectorRow {
+    ghost put_in = { put_vector };
 
     fn put<S: Alter>(&self, tx: &mut Transaction<'_, S>, _alloc: Global) -> Result<usize, Error> {
         let time = Number::new(self.last_time, 2)?;
-        put_vector_cells(tx, self, time)
+        tx.execute(
+            "INSERT OR REPLACE INTO vector (server, n, tm, committed) VALUES (?1, ?2, ?3, ?4)",
+            params![self.server.number(), self.count, time, self.committed],
+        )
     }
-
-    ghost stored_is = { λ r is. is };
-
-    ghost shown_is = { λ r is. is };
 
     ghost put_none = { λ t. refl };
 
     ghost put_more = { λ x xs t. refl };
-}
-
-impl FoundRow for VectorRow {
-    fn find<S: Alter>(
-        conn: &mut Idle<S>,
-        alloc: Global,
-        keep: bool,
-    ) -> Result<Vec<VectorRow>, Error> {
-        take_rows(conn, alloc, ALL_VECTOR, keep)
-    }
 }
 
 impl StoredRow for LogRow {
@@ -161,11 +114,11 @@ impl StoredRow for LogRow {
 
     ghost form = { log_form };
 
-    ghost order = { λ a b. id_cmp (log_id a) (log_id b) };
+    ghost stands_in = { λ under. under ≡ our_schema };
 
-    ghost rows_of = { λ t. t.log };
-
-    ghost put_in = { put_logs };
+    fn all() -> &'static str {
+        "SELECT server, n, tm, room, kind, length, choices, title, tserver, tn, place, seq FROM log"
+    }
 
     fn read(alloc: Global, row: &Row) -> Result<LogRow, Error> {
         read_log(alloc, row)
@@ -175,15 +128,15 @@ impl StoredRow for LogRow {
         passes(has_log(row))
     }
 
-    fn compare(a: &LogRow, b: &LogRow) -> Ordering {
-        compare_ids((a.server, a.n), (b.server, b.n))
-    }
+    ghost shown_as = { λ r. refl };
 
-    fn keeps_order() {}
+    ghost order = { id_order };
 
-    fn select_all<S: Alter>(conn: &mut Idle<S>) -> Result<Vec<Row>, Error> {
-        ask(conn, ALL_LOGS, &[])
-    }
+    ghost ordered = { λ a b. refl };
+}
+
+impl OurRow for LogRow {
+    ghost put_in = { put_logs };
 
     fn put<S: Alter>(&self, tx: &mut Transaction<'_, S>, _alloc: Global) -> Result<usize, Error> {
         let time = Number::new(self.time, 2)?;
@@ -191,19 +144,9 @@ impl StoredRow for LogRow {
         put_log_cells(tx, self, LogNumbers { time, seq })
     }
 
-    ghost stored_is = { λ r is. is };
-
-    ghost shown_is = { λ r is. is };
-
     ghost put_none = { λ t. refl };
 
     ghost put_more = { λ x xs t. refl };
-}
-
-impl FoundRow for LogRow {
-    fn find<S: Alter>(conn: &mut Idle<S>, alloc: Global, keep: bool) -> Result<Vec<LogRow>, Error> {
-        take_rows(conn, alloc, ALL_LOGS, keep)
-    }
 }
 
 impl RequestRow for LogRow {
@@ -226,11 +169,11 @@ impl StoredRow for BookingRow {
 
     ghost form = { booking_form };
 
-    ghost order = { λ a b. id_cmp (booking_id a) (booking_id b) };
+    ghost stands_in = { IsOfTwo };
 
-    ghost rows_of = { λ t. t.booking };
-
-    ghost put_in = { put_bookings };
+    fn all() -> &'static str {
+        "SELECT room, day, start, stop, server, n, title, committed FROM booking"
+    }
 
     fn read(alloc: Global, row: &Row) -> Result<BookingRow, Error> {
         read_booking(alloc, row)
@@ -240,38 +183,24 @@ impl StoredRow for BookingRow {
         passes(has_booking(row))
     }
 
-    fn compare(a: &BookingRow, b: &BookingRow) -> Ordering {
-        compare_ids((a.server, a.n), (b.server, b.n))
-    }
+    ghost shown_as = { λ r. refl };
 
-    fn keeps_order() {}
+    ghost order = { id_order };
 
-    fn select_all<S: Alter>(conn: &mut Idle<S>) -> Result<Vec<Row>, Error> {
-        ask(conn, ALL_BOOKINGS, &[])
-    }
+    ghost ordered = { λ a b. refl };
+}
+
+impl OurRow for BookingRow {
+    ghost put_in = { put_bookings };
 
     fn put<S: Alter>(&self, tx: &mut Transaction<'_, S>, alloc: Global) -> Result<usize, Error> {
         let day = day_text(alloc, self.day)?;
         put_booking_cells(tx, self, &day)
     }
 
-    ghost stored_is = { λ r is. is };
-
-    ghost shown_is = { λ r is. is };
-
     ghost put_none = { λ t. refl };
 
     ghost put_more = { λ x xs t. refl };
-}
-
-impl FoundRow for BookingRow {
-    fn find<S: Alter>(
-        conn: &mut Idle<S>,
-        alloc: Global,
-        keep: bool,
-    ) -> Result<Vec<BookingRow>, Error> {
-        take_rows(conn, alloc, ALL_BOOKINGS, keep)
-    }
 }
 
 impl RequestRow for BookingRow {
@@ -294,11 +223,11 @@ impl StoredRow for ErrorRow {
 
     ghost form = { error_form };
 
-    ghost order = { λ a b. id_cmp (error_id a) (error_id b) };
+    ghost stands_in = { IsOfTwo };
 
-    ghost rows_of = { λ t. t.errorlog };
-
-    ghost put_in = { put_errors };
+    fn all() -> &'static str {
+        "SELECT room, day, start, stop, server, n, title, tm, seq FROM errorlog"
+    }
 
     fn read(alloc: Global, row: &Row) -> Result<ErrorRow, Error> {
         read_error(alloc, row)
@@ -308,40 +237,24 @@ impl StoredRow for ErrorRow {
         passes(has_error(row))
     }
 
-    fn compare(a: &ErrorRow, b: &ErrorRow) -> Ordering {
-        compare_ids((a.server, a.n), (b.server, b.n))
-    }
+    ghost shown_as = { λ r. refl };
 
-    fn keeps_order() {}
+    ghost order = { id_order };
 
-    fn select_all<S: Alter>(conn: &mut Idle<S>) -> Result<Vec<Row>, Error> {
-        ask(conn, ALL_ERRORS, &[])
-    }
+    ghost ordered = { λ a b. refl };
+}
+
+impl OurRow for ErrorRow {
+    ghost put_in = { put_errors };
 
     fn put<S: Alter>(&self, tx: &mut Transaction<'_, S>, alloc: Global) -> Result<usize, Error> {
-        let time = Number::new(self.time, 7)?;
-        let seq = Number::new(self.seq, 8)?;
         let day = day_text(alloc, self.day)?;
-        put_error_cells(tx, self, &day, time, seq)
+        put_error_cells(tx, self, &day)
     }
-
-    ghost stored_is = { λ r is. is };
-
-    ghost shown_is = { λ r is. is };
 
     ghost put_none = { λ t. refl };
 
     ghost put_more = { λ x xs t. refl };
-}
-
-impl FoundRow for ErrorRow {
-    fn find<S: Alter>(
-        conn: &mut Idle<S>,
-        alloc: Global,
-        keep: bool,
-    ) -> Result<Vec<ErrorRow>, Error> {
-        take_rows(conn, alloc, ALL_ERRORS, keep)
-    }
 }
 
 impl RequestRow for ErrorRow {
@@ -357,13 +270,6 @@ impl RequestRow for ErrorRow {
     ghost take_none = { errors_none };
 
     ghost take_more = { errors_more };
-}
-
-/// By server, then by count.
-pub fn compare_ids(a: (ServerId, u32), b: (ServerId, u32)) -> Ordering
-    ensures { result ≡ id_cmp (record { server = a.0; n = a.1 }) (record { server = b.0; n = b.1 }) }
-{
-    a.0.number().cmp(&b.0.number()).then(a.1.cmp(&b.1))
 }
 
 fn read_vector(row: &Row) -> Result<VectorRow, Error>

@@ -1,71 +1,53 @@
-use Rattle.std.proofs.Common.{◌≡◌, Ok, length, rules}
-use Rattle.sqlite_trees.specs.Tree.{Trees}
+use Rattle.std.proofs.Common.{◌≡◌, inl, Ok, length, refl, rules}
+use Rattle.std.specs.Prelude.{true, IsTrue}
 use Rattle.sqlite.specs.Held.{state}
+use Rattle.mr_rows.specs.Schema.{our_schema}
 use Rattle.mr_rows.specs.Form.{meta_form, room_form, vector_form}
-use Rattle.mr_rows.specs.Database.{tables_in}
+use Rattle.mr_rows.specs.Database.{IsHeld, first_meta, in_order, tables_in}
 use Rattle.mr_rows.specs.Shown.{AreStoredAs}
-use Rattle.mr_rows.specs.Reads.{IsPlaced}
-use Rattle.mr_rows.proofs.QueryLemmas.{reads_then}
-use Rattle.mr_rows.proofs.CauseLemmas.{reached, reached_on, fails_on}
+use Rattle.mr_rows.specs.Kept.{AreRowsOf}
+use Rattle.mr_rows.proofs.QueryLemmas.{looks_then, reads_so}
+use Rattle.mr_rows.proofs.StreamedRows.{kept_looks}
+use Rattle.mr_rows.proofs.CauseLemmas.{looks_fail}
+use Rattle.mr_rows.proofs.FoundLemmas.{meta_in_tables, rooms_of, vector_of}
 use Rattle.mr_rows.proofs.all_tables.read_heads.Goals as goal
-
-abbrev Heads : Trees → Type 0
-Heads trees = AreStoredAs meta_form trees × (length (trees 0) ≡ 1) × AreStoredAs room_form trees × AreStoredAs vector_form trees
 
 pub returns-in_err-meta-clause-reads : goal.returns-in_err-meta-clause-reads
 returns-in_err-meta-clause-reads g c =
-    let a = state g.S.Store c.args.conn.now in
-    let b = state g.S.Store c.the_meta.new.conn in
-    let read = c.the_meta.ensures.reads in (read.0, read.1, λ clean kept. (search rules, search rules))
-
-pub returns-in_err-room-clause-reads : goal.returns-in_err-room-clause-reads
-returns-in_err-room-clause-reads g c =
-    let a = state g.S.Store c.args.conn.now in
-    let b = state g.S.Store c.the_meta.new.conn in
-    let d = state g.S.Store c.all_rows.new.conn in
-    let to_0 = c.in_ok-meta.ensures.reads in
-    let read = reads_then a b d c.in_ok-meta.meta (λ r. r ≡ (tables_in a.now.trees).meta) c.all_rows.result (λ db r. r.items ≡ (tables_in db.trees).room) (λ _. Unit {0}) (λ _ _ _ _. tt) to_0 c.all_rows.ensures.reads in
+    let read = kept_looks (state g.S.Store c.args.conn.now) (state g.S.Store c.the_meta.new.conn) c.the_meta.result _ (c.the_meta.ensures.looks our_schema (inl refl)) in
     (read.0, read.1, λ clean kept. (search rules, search rules))
 
-pub returns-in_err-vector-clause-reads : goal.returns-in_err-vector-clause-reads
-returns-in_err-vector-clause-reads g c =
+pub returns-in_err-rows-clause-reads : goal.returns-in_err-rows-clause-reads
+returns-in_err-rows-clause-reads g c =
     let a = state g.S.Store c.args.conn.now in
-    let b = state g.S.Store c.the_meta.new.conn in
-    let d = state g.S.Store c.all_rows.new.conn in
-    let e = state g.S.Store c.all_rows-2.new.conn in
-    let to_0 = c.in_ok-meta.ensures.reads in
-    let to_1 = reads_then a b d c.in_ok-meta.meta (λ r. r ≡ (tables_in a.now.trees).meta) (Ok c.in_ok-room.room) (λ db r. r.items ≡ (tables_in db.trees).room) (λ r. (c.in_ok-meta.meta ≡ (tables_in a.now.trees).meta) × (r.items ≡ (tables_in a.now.trees).room)) (λ kept r x y. (x, y)) to_0 c.in_ok-room.ensures.reads in
-    let read = reads_then a d e c.in_ok-room.room (λ r. (c.in_ok-meta.meta ≡ (tables_in a.now.trees).meta) × (r.items ≡ (tables_in a.now.trees).room)) c.all_rows-2.result (λ db r. r.items ≡ (tables_in db.trees).vector) (λ _. Unit {0}) (λ _ _ _ _. tt) to_1 c.all_rows-2.ensures.reads in
+    let d = state g.S.Store c.find.new.conn in
+    let read = kept_looks a d c.find.result (λ _. Unit {0})
+    (looks_then a (state g.S.Store c.the_meta.new.conn) d c.in_ok-meta.meta (λ row. IsHeld meta_form (a.now.trees 0) → row ≡ first_meta (in_order meta_form (a.now.trees 0))) c.find.result (λ db r. (AreStoredAs room_form db.trees × AreStoredAs vector_form db.trees) × (IsTrue true → AreRowsOf room_form db.trees r.0.items × AreRowsOf vector_form db.trees r.1.items)) (λ _. Unit {0}) (λ here y p q. tt)
+    (c.in_ok-meta.ensures.looks our_schema (inl refl)) (c.find.ensures.looks our_schema (inl refl, inl refl))) in
     (read.0, read.1, λ clean kept. (search rules, search rules))
 
 pub returns-clause-reads : goal.returns-clause-reads
 returns-clause-reads g c =
     let a = state g.S.Store c.args.conn.now in
-    let b = state g.S.Store c.the_meta.new.conn in
-    let d = state g.S.Store c.all_rows.new.conn in
-    let e = state g.S.Store c.all_rows-2.new.conn in
-    let to_0 = c.in_ok-meta.ensures.reads in
-    let to_1 = reads_then a b d c.in_ok-meta.meta (λ r. r ≡ (tables_in a.now.trees).meta) (Ok c.in_ok-room.room) (λ db r. r.items ≡ (tables_in db.trees).room) (λ r. (c.in_ok-meta.meta ≡ (tables_in a.now.trees).meta) × (r.items ≡ (tables_in a.now.trees).room)) (λ kept r x y. (x, y)) to_0 c.in_ok-room.ensures.reads in
-    let to_2 = reads_then a d e c.in_ok-room.room (λ r. (c.in_ok-meta.meta ≡ (tables_in a.now.trees).meta) × (r.items ≡ (tables_in a.now.trees).room)) (Ok c.in_ok-vector.vector) (λ db r. r.items ≡ (tables_in db.trees).vector) (λ r. (c.in_ok-meta.meta ≡ (tables_in a.now.trees).meta) × (c.in_ok-room.room.items ≡ (tables_in a.now.trees).room) × (r.items ≡ (tables_in a.now.trees).vector)) (λ kept r x y. (x.0, x.1, y)) to_1 c.in_ok-vector.ensures.reads in
-    to_2
+    let d = state g.S.Store c.find.new.conn in
+    let meta = c.in_ok-meta.meta in
+    let rows = c.in_ok-rows.rows in
+    let read = reads_so a d (Ok rows) (λ r. (IsHeld meta_form (a.now.trees 0) → meta ≡ first_meta (in_order meta_form (a.now.trees 0))) × (AreRowsOf room_form a.now.trees r.0.items × AreRowsOf vector_form a.now.trees r.1.items)) (λ r. (meta ≡ (tables_in a.now.trees).meta) × (r.0.items ≡ (tables_in a.now.trees).room) × (r.1.items ≡ (tables_in a.now.trees).vector))
+    (λ kept r p. (meta_in_tables a.now.trees meta (p.0 kept.ours.held.meta), rooms_of a.now.trees r.0.items kept.ours.held.room p.1.0, vector_of a.now.trees r.1.items kept.ours.held.vector p.1.1))
+    (kept_looks a d (Ok rows) (λ r. (IsHeld meta_form (a.now.trees 0) → meta ≡ first_meta (in_order meta_form (a.now.trees 0))) × (AreRowsOf room_form a.now.trees r.0.items × AreRowsOf vector_form a.now.trees r.1.items))
+    (looks_then a (state g.S.Store c.the_meta.new.conn) d meta (λ row. IsHeld meta_form (a.now.trees 0) → row ≡ first_meta (in_order meta_form (a.now.trees 0))) (Ok rows) (λ db r. (AreStoredAs room_form db.trees × AreStoredAs vector_form db.trees) × (IsTrue true → AreRowsOf room_form db.trees r.0.items × AreRowsOf vector_form db.trees r.1.items))
+    (λ r. (IsHeld meta_form (a.now.trees 0) → meta ≡ first_meta (in_order meta_form (a.now.trees 0))) × (AreRowsOf room_form a.now.trees r.0.items × AreRowsOf vector_form a.now.trees r.1.items)) (λ here y p q. (p, q.1 refl))
+    (c.in_ok-meta.ensures.looks our_schema (inl refl)) (c.in_ok-rows.ensures.looks our_schema (inl refl, inl refl)))) in
+    (read.0, read.1, read.2)
 
 pub returns-in_err-meta-clause-cause : goal.returns-in_err-meta-clause-cause
-returns-in_err-meta-clause-cause g c = λ clean here rows. let told = c.the_meta.ensures.cause clean here (rows.0, rows.1) in search rules
+returns-in_err-meta-clause-cause g c = λ clean here rows. let told = c.the_meta.ensures.cause our_schema (inl refl) clean here (rows.0, rows.1) in search rules
 
-pub returns-in_err-room-clause-cause : goal.returns-in_err-room-clause-cause
-returns-in_err-room-clause-cause g c = λ clean here rows.
+pub returns-in_err-rows-clause-cause : goal.returns-in_err-rows-clause-cause
+returns-in_err-rows-clause-cause g c = λ clean here rows.
     let a = state g.S.Store c.args.conn.now in
     let b = state g.S.Store c.the_meta.new.conn in
-    let d = state g.S.Store c.all_rows.new.conn in
-    let told = fails_on a b d (λ _. ¬ IsPlaced b) Heads (AreStoredAs room_form) c.all_rows.result (reached a b c.in_ok-meta.ensures.looks) c.all_rows.ensures.looks.0 (λ t all. all.2) c.all_rows.ensures.cause clean here rows in
-    search rules
-
-pub returns-in_err-vector-clause-cause : goal.returns-in_err-vector-clause-cause
-returns-in_err-vector-clause-cause g c = λ clean here rows.
-    let a = state g.S.Store c.args.conn.now in
-    let b = state g.S.Store c.the_meta.new.conn in
-    let d = state g.S.Store c.all_rows.new.conn in
-    let e = state g.S.Store c.all_rows-2.new.conn in
-    let told = fails_on a d e (λ _. ¬ IsPlaced d) Heads (AreStoredAs vector_form) c.all_rows-2.result (reached_on a b d (reached a b c.in_ok-meta.ensures.looks) c.in_ok-room.ensures.looks) c.all_rows-2.ensures.looks.0 (λ t all. all.3)
-    c.all_rows-2.ensures.cause clean here rows in
+    let d = state g.S.Store c.find.new.conn in
+    let told = looks_fail a b d c.in_ok-meta.meta (λ row. IsHeld meta_form (a.now.trees 0) → row ≡ first_meta (in_order meta_form (a.now.trees 0))) c.find.result (λ r. (AreStoredAs room_form b.now.trees × AreStoredAs vector_form b.now.trees) × (IsTrue true → AreRowsOf room_form b.now.trees r.0.items × AreRowsOf vector_form b.now.trees r.1.items))
+    (λ t. AreStoredAs meta_form t × (length (t 0) ≡ 1) × AreStoredAs room_form t × AreStoredAs vector_form t) (λ t. AreStoredAs room_form t × AreStoredAs vector_form t) (c.in_ok-meta.ensures.looks our_schema (inl refl)) (c.find.ensures.looks our_schema (inl refl, inl refl)) (λ t all. (all.2, all.3)) (c.find.ensures.cause our_schema (inl refl, inl refl)) clean here rows in
     search rules

@@ -1,8 +1,8 @@
 use Rattle.std.specs.Str.{is_utf8}
 use Rattle.sqlite_value.specs.Order.{column}
 use Rattle.mr_model.specs.Writes.{is_title}
-use Rattle.mr_rows.proofs.CellLemmas.{no_text, title_utf8, on_other}
+use Rattle.mr_rows.proofs.CellLemmas.{no_text, title_utf8, on_err}
 use Rattle.mr_rows.proofs.cells.read_title.Goals as goal
 
 pub returns-in_err-text_in-clause-refused : goal.returns-in_err-text_in-clause-refused
-returns-in_err-text_in-clause-refused c = on_other _ c.from_residual.result (no_text is_utf8 is_title title_utf8 (column c.args.row.now c.args.at) c.in_err-text_in.ensures.refused)
+returns-in_err-text_in-clause-refused c = on_err c.from_residual.result (λ _ _. no_text is_utf8 is_title title_utf8 (column c.args.row.now c.args.at) c.in_err-text_in.ensures.refused)

@@ -9,4 +9,4 @@ invariant-rows g l =
     let first = state g.S.Store l.fn.tx.conn.now in
     let now = state g.S.Store l.tx.conn.now in
     (l.tx.conn.ghost_name ≡ l.fn.tx.conn.ghost_name) × Survives first now (λ _. ⊥)
-    × IsChangeUnderWay first now (g.R.StoredRow.put_in (drop l.row-index l.rows) (tables_in now.now.trees)) (g.R.StoredRow.put_in l.rows (tables_in first.now.trees))
+    × IsChangeUnderWay first now (g.R.OurRow.put_in (drop l.row-index l.rows) (tables_in now.now.trees)) (g.R.OurRow.put_in l.rows (tables_in first.now.trees))

@@ -1,6 +1,7 @@
 use Rattle.std.proofs.Common.{ap, sym, ◌∙◌}
 use Rattle.mr_rows.specs.RowLimits.{is_day_text}
-use Rattle.mr_rows.proofs.ChoiceLemmas.{day_passes, day_of_text}
+use Rattle.mr_rows.proofs.CellLemmas.{day_passes}
+use Rattle.mr_rows.proofs.ChoiceLemmas.{day_of_text}
 use Rattle.mr_rows.proofs.choices.is_day_text.Goals as goal
 
 pub returns-in-Ok : goal.returns-in-Ok

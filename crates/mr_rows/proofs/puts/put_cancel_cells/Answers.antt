@@ -19,8 +19,6 @@ returns-clause-put g c =
     let target = sym (ap (λ (r : CancelRow). r.target) c.row.view_is ∙ c.requires.target) in
     let server = ap (λ (x : Id). x.server) target in
     let n = ap (λ (x : Id). x.n) target in
-    let time = c.requires.time ∙ sym (ap (λ (r : CancelRow). r.time) c.row.view_is) in
-    let seq = c.requires.seq ∙ sym (ap (λ (r : CancelRow). r.seq) c.row.view_is) in
-    let ran = λ (clean : HasCleanDisk (state g.S.Store new)) (within : IsTrue old.in_transaction). (rw (c.params-to_sql.ensures, c.params-to_sql-2.ensures, c.params-to_sql-3.ensures, c.params-to_sql-4.ensures, c.params-to_sql-5.ensures, c.params-to_sql-6.ensures, c.params-to_sql-7.ensures, c.params-to_sql-8.ensures, c.number.ensures.value, c.as_str.ensures.text, server, n, time, seq) at (c.execute.ensures.runs clean within)) in
+    let ran = λ (clean : HasCleanDisk (state g.S.Store new)) (within : IsTrue old.in_transaction). (rw (c.params-to_sql.ensures, c.params-to_sql-2.ensures, c.params-to_sql-3.ensures, c.params-to_sql-4.ensures, c.params-to_sql-5.ensures, c.params-to_sql-6.ensures, c.params-to_sql-7.ensures, c.params-to_sql-8.ensures, c.number.ensures.value, c.as_str.ensures.text, server, n, c.in_ok-time.ensures.value, c.in_ok-seq.ensures.value) at (c.execute.ensures.runs clean within)) in
     subst (λ (row : CancelRow). MakesTables (state g.S.Store old) (state g.S.Store new) (put_cancels (row ∷ []) (tables_in (state g.S.Store old).now.trees)) c.execute.result) c.row.view_is
     (makes g.S.Store old new put_cancel_text (cancel_form.cells row) (put_cancels (row ∷ [])) c.execute.result (puts_cancel row) ran (λ outside. (c.execute.ensures.ended outside).1))

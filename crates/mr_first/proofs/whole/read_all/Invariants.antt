@@ -1,6 +1,0 @@
-use Rattle.std.proofs.Common.{◌≡◌, ◌∷◌, map, take}
-use Rattle.sqlite_value.specs.declared.value.Value.TheVariants.{Null}
-use Rattle.mr_first.proofs.whole.read_all.Given as goal
-
-abbrev pub invariant-rows : goal.invariant-rows
-invariant-rows g l = l.out.items ≡ map (λ row. g.R.FirstRow.form.row_in (Null ∷ row)) (take l.row-index l.rows)

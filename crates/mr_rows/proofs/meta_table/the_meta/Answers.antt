@@ -1,0 +1,40 @@
+use Rattle.std.proofs.Common.{◌≡◌, ◌∷◌, length, map, refl, rules}
+use Rattle.sqlite_value.specs.declared.value.Value.TheVariants.{Null}
+use Rattle.sqlite.specs.Held.{state}
+use Rattle.std.specs.List.Sorted.{IsPermutation}
+use Rattle.mr_rows.specs.RowCells.{meta_in}
+use Rattle.mr_rows.specs.Form.{meta_form_of}
+use Rattle.mr_rows.specs.Shown.{columns_from, IsStoredAs, AreStoredAs}
+use Rattle.mr_tables.specs.TableOrders.{number_order}
+use Rattle.mr_rows.proofs.ShownRows.{meta_shown}
+use Rattle.mr_rows.proofs.QueryLemmas.{told_so, looks_made}
+use Rattle.mr_rows.proofs.CauseLemmas.{made_fails, not_first_meta}
+use Rattle.mr_rows.proofs.FirstLemmas.{meta_is}
+use Rattle.mr_rows.proofs.RowOrder.{shown_rows}
+use Rattle.mr_rows.proofs.meta_table.the_meta.Goals as goal
+
+pub returns-in_err-rows-clause-looks : goal.returns-in_err-rows-clause-looks
+returns-in_err-rows-clause-looks g c under two = let read = c.select_all_meta.ensures.looks under two in (read.0, read.1, λ clean here. (search rules, search rules))
+
+pub returns-clause-looks : goal.returns-clause-looks
+returns-clause-looks g c under two =
+    let old = state g.S.Store c.args.conn.now in
+    let form = meta_form_of c.args.number in
+    let shown = c.in_ok-rows.rows.items in
+    let same : c.deref.result.now ≡ shown = search rules in
+    looks_made old (state g.S.Store c.select_all_meta.new.conn) c.in_ok-rows.rows (λ rows. IsPermutation (map (columns_from 1 7) (old.now.trees 0)) rows.items) c.first_meta.result _
+    (λ here read. told_so c.first_meta.result _ _ (λ row is held. meta_is (old.now.trees 0) (map (λ row. meta_in (Null ∷ row)) shown) row (shown_rows form number_order (columns_from 1 7) (old.now.trees 0) shown (λ r. refl) held read) is) (rw same at c.first_meta.ensures.row))
+    (c.in_ok-rows.ensures.looks under two)
+
+pub returns-in_err-rows-clause-cause : goal.returns-in_err-rows-clause-cause
+returns-in_err-rows-clause-cause g c under two = λ clean here rows. let told = c.select_all_meta.ensures.cause under two clean here tt in search rules
+
+pub returns-clause-cause : goal.returns-clause-cause
+returns-clause-cause g c under two =
+    let old = state g.S.Store c.args.conn.now in
+    let form = meta_form_of c.args.number in
+    let shown = c.in_ok-rows.rows.items in
+    let same : c.deref.result.now ≡ shown = search rules in
+    made_fails old (state g.S.Store c.select_all_meta.new.conn) c.in_ok-rows.rows (λ rows. IsPermutation (map (columns_from 1 7) (old.now.trees 0)) rows.items) (λ trees. AreStoredAs form trees × (length (trees 0) ≡ 1)) c.first_meta.result
+    (c.in_ok-rows.ensures.looks under two)
+    (λ rows read. not_first_meta c.args.number (IsStoredAs form) (λ r is. (meta_shown c.args.number (columns_from 1 7 r)).1 is) (old.now.trees 0) shown c.first_meta.result read (rw same at c.first_meta.ensures.refused) rows)

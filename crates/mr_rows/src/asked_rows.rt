@@ -1,0 +1,176 @@
+ghost use Rattle.std.specs.Prelude.{◌≡◌, ◌≢◌, [], ◌∷◌, Bool, List, pos, bytes_eq, filter, find, map, IfOk, IfErr, ⊤};
+ghost use Rattle.std.specs.List.{All};
+ghost use Rattle.std.specs.List.Sorted.{IsPermutation};
+ghost use Rattle.sqlite_value.specs.declared.value.Value.TheVariants.{Null, Int, Text};
+ghost use Rattle.sqlite_value.specs.Order.{Row as Cells};
+ghost use Rattle.sqlite.specs.Values.{bound};
+ghost use Rattle.sqlite.specs.Held.{state};
+ghost use Rattle.mr_model.specs.Texts.{Text as Name};
+ghost use Rattle.mr_model.specs.Writes.{Id, same_id};
+ghost use Rattle.mr_model.specs.Replica.{is_among};
+ghost use Rattle.mr_model.specs.Queries.{booking_id, error_id, cancelled_id, cancel_id};
+ghost use Rattle.mr_rows.specs.Database.{IsHeld, in_order};
+ghost use Rattle.mr_rows.specs.Shown.{IsShownAs, AreStoredAs};
+ghost use Rattle.mr_rows.specs.Reads.{Looks, first_of};
+ghost use Rattle.mr_rows.specs.Causes.{FailsByStore};
+ghost use Rattle.mr_rows.specs.Asked.{AreChosen, AsksFor};
+
+use crate::idle::Idle;
+use crate::stored_rows::{StoredRow, read_all};
+use mr_base::{RoomName, WriteId};
+use mr_tables::{BookingRow, CancelRow, CancelledRow, ErrorRow};
+use sqlite::types::ValueRef;
+use sqlite::{Alter, Error, ErrorCode, Row, params};
+use std::alloc::Global;
+
+/// A row that is asked for by the room or the id of its write.
+pub trait AskedRow: StoredRow {
+    ghost room_of: { Self → Name };
+
+    ghost id_of: { Self → Id };
+
+    /// The text that asks for the rows of a room.
+    fn of_room() -> &'static str
+        ensures { (room : Name) → AsksFor Self.form result.now (Text room ∷ []) (λ row. bytes_eq (room_of row) room) };
+
+    /// The text that asks for the row with an id, of which there is one.
+    fn of_id() -> &'static str
+        ensures asks { (id : Id) → AsksFor Self.form result.now (Int (pos id.server) ∷ Int (pos id.n) ∷ []) (λ row. is_among (id_of row) (id ∷ [])) }
+        ensures one { (id : Id) (stored : List Cells) (shown : List Self) → IsPermutation (filter (λ row. is_among (id_of row) (id ∷ [])) (in_order Self.form stored)) shown
+            → first_of shown ≡ find (λ row. same_id (id_of row) id) (in_order Self.form stored) };
+}
+
+impl AskedRow for BookingRow {
+    ghost room_of = { λ row. row.room };
+
+    ghost id_of = { booking_id };
+
+    fn of_room() -> &'static str {
+        "SELECT room, day, start, stop, server, n, title, committed FROM booking WHERE room = ?1"
+    }
+
+    fn of_id() -> &'static str {
+        "SELECT room, day, start, stop, server, n, title, committed FROM booking WHERE server = ?1 AND n = ?2"
+    }
+}
+
+impl AskedRow for ErrorRow {
+    ghost room_of = { λ row. row.room };
+
+    ghost id_of = { error_id };
+
+    fn of_room() -> &'static str {
+        "SELECT room, day, start, stop, server, n, title, tm, seq FROM errorlog WHERE room = ?1"
+    }
+
+    fn of_id() -> &'static str {
+        "SELECT room, day, start, stop, server, n, title, tm, seq FROM errorlog WHERE server = ?1 AND n = ?2"
+    }
+}
+
+impl AskedRow for CancelledRow {
+    ghost room_of = { λ row. row.room };
+
+    ghost id_of = { cancelled_id };
+
+    fn of_room() -> &'static str {
+        "SELECT room, day, start, stop, server, n, title, committed, bserver, bn FROM cancelled WHERE room = ?1"
+    }
+
+    fn of_id() -> &'static str {
+        "SELECT room, day, start, stop, server, n, title, committed, bserver, bn FROM cancelled WHERE server = ?1 AND n = ?2"
+    }
+}
+
+impl AskedRow for CancelRow {
+    ghost room_of = { λ row. row.room };
+
+    ghost id_of = { cancel_id };
+
+    fn of_room() -> &'static str {
+        "SELECT server, n, room, tserver, tn, done, tm, seq FROM cancel WHERE room = ?1"
+    }
+
+    fn of_id() -> &'static str {
+        "SELECT server, n, room, tserver, tn, done, tm, seq FROM cancel WHERE server = ?1 AND n = ?2"
+    }
+}
+
+/// The rows that a text shows which asks for some rows of a table.
+fn ask_for<R: AskedRow, S: Alter>(
+    conn: &mut Idle<S>,
+    sql: &str,
+    params: &[ValueRef<'_>],
+) -> Result<Vec<Row>, Error>
+    ensures looks { (chosen : R → Bool) → AsksFor R.form sql.now (bound params.now) chosen
+        → Looks (state S.Store conn.old) (state S.Store conn.new) result (λ rows. AreChosen R.form chosen (state S.Store conn.old).now.trees rows.items) }
+    ensures cause { (chosen : R → Bool) → AsksFor R.form sql.now (bound params.now) chosen
+        → FailsByStore (λ _. ⊤) (state S.Store conn.old) (state S.Store conn.new) result }
+{
+    conn.connection.query_all(sql, params)
+}
+
+/// The rows of a room.
+pub fn rows_in<R: AskedRow, S: Alter>(
+    conn: &mut Idle<S>,
+    alloc: Global,
+    room: &RoomName,
+) -> Result<Vec<R>, Error>
+    ensures looks { Looks (state S.Store conn.old) (state S.Store conn.new) result
+        (λ rows. IsHeld R.form ((state S.Store conn.old).now.trees R.form.table.tree)
+        → IsPermutation (filter (λ row. bytes_eq (R.room_of row) room.now) (in_order R.form ((state S.Store conn.old).now.trees R.form.table.tree))) rows.items) }
+    ensures cause { FailsByStore (AreStoredAs R.form) (state S.Store conn.old) (state S.Store conn.new) result }
+{
+    let rows = ask_for::<R, S>(conn, R::of_room(), params![room.as_str()])?;
+    read_all(alloc, &rows)
+}
+
+fn first_row<R: StoredRow>(alloc: Global, rows: &[Row]) -> Result<Option<R>, Error>
+    ensures first { IfOk result (λ row. row ≡ first_of (map (λ row. R.form.row_in (Null ∷ row)) rows.now)) }
+    ensures refused { IfErr result (λ e. e ≢ Error.SqliteFailure ErrorCode.OutOfMemory → ¬ All (IsShownAs R.form) rows.now) }
+{
+    match rows.first() {
+        None => Ok(None),
+        Some(row) => Ok(Some(R::read(alloc, row)?)),
+    }
+}
+
+fn parts_of(id: WriteId) -> (u32, u32)
+    ensures { id ≡ record { server = result.0; n = result.1 } }
+{
+    (id.server.number(), id.n)
+}
+
+/// The row with this id.
+pub fn row_of<R: AskedRow, S: Alter>(
+    conn: &mut Idle<S>,
+    alloc: Global,
+    id: WriteId,
+) -> Result<Option<R>, Error>
+    ensures looks { Looks (state S.Store conn.old) (state S.Store conn.new) result
+        (λ row. IsHeld R.form ((state S.Store conn.old).now.trees R.form.table.tree)
+        → row ≡ find (λ r. same_id (R.id_of r) id) (in_order R.form ((state S.Store conn.old).now.trees R.form.table.tree))) }
+    ensures cause { FailsByStore (AreStoredAs R.form) (state S.Store conn.old) (state S.Store conn.new) result }
+{
+    let (server, n) = parts_of(id);
+    let rows = ask_for::<R, S>(conn, R::of_id(), params![server, n])?;
+    first_row(alloc, &rows)
+}
+
+/// The rows of two tables with this id.
+pub fn rows_of<A: AskedRow, B: AskedRow, S: Alter>(
+    conn: &mut Idle<S>,
+    alloc: Global,
+    id: WriteId,
+) -> Result<(Option<A>, Option<B>), Error>
+    ensures looks { Looks (state S.Store conn.old) (state S.Store conn.new) result
+        (λ rows. (IsHeld A.form ((state S.Store conn.old).now.trees A.form.table.tree)
+        → rows.0 ≡ find (λ r. same_id (A.id_of r) id) (in_order A.form ((state S.Store conn.old).now.trees A.form.table.tree)))
+        × (IsHeld B.form ((state S.Store conn.old).now.trees B.form.table.tree)
+        → rows.1 ≡ find (λ r. same_id (B.id_of r) id) (in_order B.form ((state S.Store conn.old).now.trees B.form.table.tree)))) }
+    ensures cause { FailsByStore (λ trees. AreStoredAs A.form trees × AreStoredAs B.form trees) (state S.Store conn.old) (state S.Store conn.new) result }
+{
+    let first = row_of::<A, S>(conn, alloc, id)?;
+    let second = row_of::<B, S>(conn, alloc, id)?;
+    Ok((first, second))
+}
