@@ -21,7 +21,8 @@ use Rattle.mr_model.proofs.Members.{Sorted, all_has, has_all, has_any, has_filte
 use Rattle.mr_model.proofs.UniqueReplay.{some_inj, none_some}
 use Rattle.mr_replay.proofs.IdKeys.{is_eq-Equal}
 use Rattle.mr_tables.specs.Change.{id_before, put, rows_without}
-use Rattle.mr_tables.proofs.Putting.{InOrder, id_order, put_has, put_in_order}
+use Rattle.mr_tables.specs.TableOrders.{InOrder, id_order}
+use Rattle.mr_tables.proofs.Putting.{put_has, put_in_order}
 use Rattle.mr_store.specs.declared.row_key.RowKey.{RowKey}
 use Rattle.mr_store.specs.Keyed.{if_passes}
 use Rattle.mr_store.specs.RowKeys.{key_cmp, key_before, id_in, has, row_at, is_between, IsIndexed, AreBetween}

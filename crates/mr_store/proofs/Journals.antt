@@ -11,7 +11,8 @@ use Rattle.mr_model.specs.Writes.{Id, same_id}
 use Rattle.mr_model.proofs.Members.{filter_has, find_has, has_filter, same_id-true, same_id_from, same_id_refl, sorted_filter}
 use Rattle.mr_model.proofs.UniqueReplay.{none_some}
 use Rattle.mr_tables.specs.Change.{id_before, put, put_all, rows_without}
-use Rattle.mr_tables.proofs.Putting.{InOrder, has_put, has_without, id_order, in_order_same, put_has, put_in_order, without_has}
+use Rattle.mr_tables.specs.TableOrders.{InOrder, id_order}
+use Rattle.mr_tables.proofs.Putting.{has_put, has_without, in_order_same, put_has, put_in_order, without_has}
 use Rattle.mr_replay.proofs.IdKeys.{at_is, same_id_equivalence}
 use Rattle.mr_store.specs.Journal.{AreSteps, IsStep, is_going, rows_but}
 use Rattle.mr_store.specs.Keyed.{cells_cmp, cells_of_id}

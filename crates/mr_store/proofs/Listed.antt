@@ -18,7 +18,7 @@ use Rattle.mr_model.proofs.SlotTests.{same_date-true}
 use Rattle.mr_replay.specs.Index.{padded}
 use Rattle.mr_replay.proofs.Lists.{one_name}
 use Rattle.mr_tables.specs.Change.{id_before}
-use Rattle.mr_tables.proofs.Putting.{InOrder}
+use Rattle.mr_tables.specs.TableOrders.{InOrder}
 use Rattle.mr_store.specs.declared.row_key.RowKey.{RowKey}
 use Rattle.mr_store.specs.Calendar.{is_asked, AreListed}
 use Rattle.mr_store.specs.Picked.{is_day_asked, booking_before}

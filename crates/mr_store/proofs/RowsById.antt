@@ -18,7 +18,8 @@ use Rattle.mr_base.specs.Ids.{id_cmp}
 use Rattle.mr_replay.specs.Holds.{AreDistinct}
 use Rattle.mr_replay.proofs.IdKeys.{exact_ids, ids_total, at_is, same_id_equivalence}
 use Rattle.mr_tables.specs.Change.{id_before, put, rows_without}
-use Rattle.mr_tables.proofs.Putting.{InOrder, id_order, put_in_order}
+use Rattle.mr_tables.specs.TableOrders.{InOrder, id_order}
+use Rattle.mr_tables.proofs.Putting.{put_in_order}
 use Rattle.mr_store.specs.Keyed.{cells_cmp, cells_of_id, IsKeyed, if_passes}
 
 -- it holds whatever the result

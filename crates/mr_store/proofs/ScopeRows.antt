@@ -1,9 +1,12 @@
 -- Tables with the rows that a command needs have in its scope what all tables have.
-use Rattle.std.proofs.Common.{◌≡◌, ℕ, Bool, true, false, cond, List, [], ◌∷◌, map, take, Option, Some, IfSome, refl, sym, ap, subst, ◌∙◌}
-use Rattle.std.proofs.lemmas.Bool.{true≢false}
-use Rattle.std.specs.List.{filter}
-use Rattle.mr_model.specs.Texts.{within}
-use Rattle.mr_model.specs.Scopes.{Scope, Nothing, InRoom, OfTarget, NextCommits, UpTo, Above, OfItems, is_tentative, is_above, by_stamp, in_scope, with_rows}
+use Rattle.std.proofs.Common.{◌≡◌, ℕ, nat_lt, Bool, true, false, cond, not, ◌&&◌, ◌||◌, List, [], ◌∷◌, ◌++◌, map, flat_map, take, ◌⊎◌, inl, inr, Option, Some, IfSome, refl, sym, ap, subst, ◌∙◌}
+use Rattle.std.proofs.lemmas.Bool.{true≢false, and_parts, or_cases, or_left, or_right}
+use Rattle.std.specs.List.{filter, list_any}
+use Rattle.std.specs.Str.{bytes_eq}
+use Rattle.mr_model.specs.Dropped.{Has}
+use Rattle.mr_model.specs.Exchange.{Item, W, C}
+use Rattle.mr_model.specs.Texts.{Text, within}
+use Rattle.mr_model.specs.Scopes.{Scope, Nothing, InRoom, OfTarget, NextCommits, UpTo, Above, OfItems, is_tentative, is_above, by_stamp, has_number, in_scope, is_in_tail, is_named, item_id, rooms_of_item, with_rows}
 use Rattle.mr_model.specs.Tables.{LogRow, BookingRow, ErrorRow, CancelledRow, Tables}
 use Rattle.mr_model.specs.Queries.{booking_id, error_id, cancelled_id, log_id}
 use Rattle.mr_model.specs.Replica.{is_among}
@@ -43,18 +46,57 @@ above_scope t commits = ap (λ logs. with_rows t logs [] [] []) (twice (is_above
 
 -- ---- without bookings
 
-pub all_stay : {R : Type 0} (rows : List R) → filter (λ r. true) rows ≡ rows
-all_stay [] = refl
-all_stay (x ∷ rows) = ap (λ ys. x ∷ ys) (all_stay rows)
+-- the tests of a batch find the same rows among those that are needed
+narrower : {R : Type 0} (p q : R → Bool) → ((r : R) → p r ≡ true → q r ≡ true) → (rows : List R) → filter p (filter q rows) ≡ filter p rows
+narrower p q up [] = refl
+narrower {R} p q up (x ∷ xs) = go (p x) (q x) refl (up x) (narrower p q up xs)
+  where
+    go : (a b : Bool) → p x ≡ a → (a ≡ true → b ≡ true) → filter p (filter q xs) ≡ filter p xs → filter p (cond b (x ∷ filter q xs) (filter q xs)) ≡ cond a (x ∷ filter p xs) (filter p xs)
+    go a true e u ih = ap (λ c. cond c (x ∷ filter p (filter q xs)) (filter p (filter q xs))) e ∙ ap (λ ys. cond a (x ∷ ys) ys) ih
+    go true false e u ih = absurd (true≢false (sym (u refl)))
+    go false false e u ih = ih
 
-pub rooms_scope : (s : Scope) (t : Tables) → is_of_rooms s ≡ true → without_bookings (in_scope s (with_rows t (filter (is_log_needed s) t.log) [] [] [])) ≡ without_bookings (in_scope s t)
+named_id : (a : Id) (x : Item) (items : List Item) → Has x items → same_id a (item_id x) ≡ true → is_among a (map item_id items) ≡ true
+named_id a x [] h same = absurd h
+named_id a x (y ∷ items) (inl e) same = or_left (same_id a (item_id y)) (is_among a (map item_id items)) (subst (λ z. same_id a (item_id z) ≡ true) e same)
+named_id a x (y ∷ items) (inr h) same = or_right (same_id a (item_id y)) (is_among a (map item_id items)) (named_id a x items h same)
+
+module _ (known : ℕ) (items : List Item) (log : List LogRow) where
+  abbrev pub needed : LogRow → Bool
+  needed row = is_in_tail known items row || is_named items row
+
+  kept : (x : Item) → Has x items → filter (λ row. same_id (log_id row) (item_id x)) (filter needed log) ≡ filter (λ row. same_id (log_id row) (item_id x)) log
+  kept x h =
+      narrower (λ row. same_id (log_id row) (item_id x)) needed
+      (λ row same. or_right (is_in_tail known items row) (is_named items row) (or_left (is_among (log_id row) (map item_id items)) (not (is_tentative row) && list_any (has_number row.seq) items) (named_id (log_id row) x items h same)))
+      log
+
+  rooms_of : (left : List Item) → ((x : Item) → Has x left → Has x items) → flat_map (rooms_of_item known (filter needed log)) left ≡ flat_map (rooms_of_item known log) left
+  rooms_of [] all = refl
+  rooms_of (W w ∷ left) all = ap (λ rooms. w.room ∷ rooms) (rooms_of left (λ x h. all x (inr h)))
+  rooms_of (C seq id ∷ left) all =
+      (λ i. cond (nat_lt known seq) (map (λ (row : LogRow). row.room) (kept (C seq id) (all (C seq id) (inl refl)) i)) [] ++ rooms_of left (λ x h. all x (inr h)) i)
+
+  abbrev pub in_batch : List Text → LogRow → Bool
+  in_batch rooms row = is_named items row || (is_in_tail known items row && list_any (bytes_eq row.room) rooms)
+
+  pub batch_rows : filter (in_batch (flat_map (rooms_of_item known (filter needed log)) items)) (filter needed log) ≡ filter (in_batch (flat_map (rooms_of_item known log) items)) log
+  batch_rows =
+      (λ i. filter (in_batch (rooms_of items (λ x h. h) i)) (filter needed log))
+      ∙ narrower (in_batch (flat_map (rooms_of_item known log) items)) needed (λ row h. up row (or_cases (is_named items row) (is_in_tail known items row && list_any (bytes_eq row.room) (flat_map (rooms_of_item known log) items)) h)) log
+    where
+      up : (row : LogRow) → (is_named items row ≡ true) ⊎ ((is_in_tail known items row && list_any (bytes_eq row.room) (flat_map (rooms_of_item known log) items)) ≡ true) → needed row ≡ true
+      up row (inl named) = or_right (is_in_tail known items row) (is_named items row) named
+      up row (inr late) = or_left (is_in_tail known items row) (is_named items row) (and_parts (is_in_tail known items row) (list_any (bytes_eq row.room) (flat_map (rooms_of_item known log) items)) late).0
+
+pub rooms_scope : (s : Scope) (t : Tables) → is_of_rooms s ≡ true → without_bookings (in_scope s (with_rows t (filter (is_log_needed t.meta.commits s) t.log) [] [] [])) ≡ without_bookings (in_scope s t)
 rooms_scope Nothing t is = refl
 rooms_scope (InRoom room) t is = refl
 rooms_scope (OfTarget target) t is = absurd (true≢false (sym is))
 rooms_scope (NextCommits k) t is = absurd (true≢false (sym is))
 rooms_scope (UpTo d) t is = absurd (true≢false (sym is))
 rooms_scope (Above commits) t is = absurd (true≢false (sym is))
-rooms_scope (OfItems items) t is = ap (λ logs. without_bookings (in_scope (OfItems items) (with_rows t logs [] [] []))) (all_stay t.log)
+rooms_scope (OfItems items) t is = ap (λ logs. with_rows t logs [] [] []) (batch_rows t.meta.commits items t.log)
 
 pub by_rooms : (s : Scope) → is_of_rooms s ≡ true → goes_by_rooms s ≡ true
 by_rooms Nothing is = refl

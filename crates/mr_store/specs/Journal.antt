@@ -4,7 +4,7 @@ use Rattle.std.specs.BTreeSet.{BTreeSet, contains}
 use Rattle.mr_model.specs.Dropped.{Has}
 use Rattle.mr_model.specs.Writes.{Id, same_id}
 use Rattle.mr_tables.specs.Change.{id_before, put}
-use Rattle.mr_tables.proofs.Putting.{InOrder}
+use Rattle.mr_tables.specs.TableOrders.{InOrder}
 use Rattle.mr_store.specs.declared.journal.Journal.{Journal}
 use Rattle.mr_store.specs.Keyed.{cells_cmp, cells_of_id}
 

@@ -3,6 +3,7 @@ use Rattle.std.specs.Prelude.{◌≡◌, ℕ, Bool, true, List, [], find, Option
 use Rattle.std.specs.BTreeMap.Range.{range_contains}
 use Rattle.std.specs.BTreeSet.{BTreeSet, contains}
 use Rattle.std.specs.Coded.{Coded, code_by, coded×, coded_list, coded_ℕ}
+use Rattle.std.specs.Map.{values_of}
 use Rattle.std.specs.Cmp.Lexicographic.{slice_cmp}
 use Rattle.std.specs.Ordering.{on, nat_cmp, then_cmp, is_lt, is_eq}
 use Rattle.std.specs.declared.cmp.Ordering.{Ordering}
@@ -14,11 +15,13 @@ use Rattle.mr_model.specs.Scopes.{is_tentative}
 use Rattle.mr_model.specs.Tables.{LogRow, BookingRow}
 use Rattle.mr_model.specs.Texts.{Text}
 use Rattle.mr_model.specs.Writes.{Id, same_id}
+use Rattle.mr_part.specs.declared.tail.Tail.{Tail}
+use Rattle.mr_part.specs.declared.tail.Tail.TheVariants.{Everything, From, Nothing}
 use Rattle.mr_replay.specs.Index.{padded}
 use Rattle.mr_tables.specs.Change.{id_before}
-use Rattle.mr_tables.proofs.Putting.{InOrder}
+use Rattle.mr_tables.specs.TableOrders.{InOrder}
 use Rattle.mr_store.specs.declared.row_key.RowKey.{RowKey}
-use Rattle.mr_store.specs.Keyed.{if_passes}
+use Rattle.mr_store.specs.Keyed.{if_passes, IsKeyed}
 
 abbrev pub key_cmp : RowKey → RowKey → Ordering
 key_cmp = then_cmp (on (λ k. k.room) (slice_cmp nat_cmp)) (then_cmp (on (λ k. k.edge) nat_cmp) (then_cmp (on (λ k. k.number) nat_cmp) (then_cmp (on (λ k. k.month) nat_cmp)
@@ -82,17 +85,24 @@ abbrev pub end_key : ℕ → Text → Option Date → RowKey
 end_key edge room None = key_at room edge (numbered 0) 1 0 no_id
 end_key edge room (Some day) = key_at room 1 day edge 0 no_id
 
--- the rows of the log have no room in their keys: the committed ones stand by their numbers, and the tentative ones behind them
+-- the rows of the log have no room in their keys: the committed ones stand by their numbers, and behind them the tentative ones in the
+-- order of stamps
 abbrev pub log_key : LogRow → RowKey
-log_key row = key_at [] (if is_tentative row then 3 else 1) (numbered row.seq) 1 0 (log_id row)
+log_key row = key_at [] (if is_tentative row then 3 else 1) (numbered (if is_tentative row then row.time else row.seq)) 1 0 (log_id row)
 
 -- in front of all rows of the log, of the tentative ones, and behind all, where the edge is 0, 2, and 4
 abbrev pub log_end : ℕ → RowKey
 log_end edge = end_key edge [] None
 
--- behind the committed rows up to this number
-abbrev pub behind : ℕ → RowKey
-behind number = end_key 2 [] (Some (numbered number))
+-- in front of the committed rows of this number where the edge is 0, and behind them where it is 2
+abbrev pub number_end : ℕ → ℕ → RowKey
+number_end edge number = end_key edge [] (Some (numbered number))
+
+-- in front of the tentative rows that are in the tail of a batch
+abbrev pub tail_end : Tail → RowKey
+tail_end Everything = log_end 2
+tail_end (From time server) = key_at [] 3 (numbered time) 1 0 (record { server = server; n = 0 })
+tail_end Nothing = log_end 4
 
 -- ---- rows by their keys
 
@@ -122,6 +132,15 @@ IsNoted key keys row = IsTrue (has keys (key row))
 pub record IsIndexed {R : Type 0} (id : R → Id) (key : R → RowKey) (rows : List R) (keys : BTreeSet RowKey) : Type 0 where
   pub order : InOrder id_before id rows
   pub noted : (row : R) → Has row rows → IsTrue (has keys (key row))
+
+-- the rows stand under the cells of their ids, and the key of each is among these
+pub record IsTable {R : Type 0} (id : R → Id) (key : R → RowKey) (entries : List ((ℕ × ℕ) × R)) (keys : BTreeSet RowKey) : Type 0 where
+  pub keyed : IsKeyed id entries
+  pub index : IsIndexed id key (values_of entries) keys
+
+-- these are the rows that pass, each at least once
+abbrev pub AreThose : {R : Type 0} → (R → Bool) → List R → List R → Type 0
+AreThose {R} q all rows = ((row : R) → Has row rows → Has row all × (q row ≡ true)) × ((row : R) → Has row all → q row ≡ true → Has row rows)
 
 -- the row of this key
 abbrev pub row_at : {R : Type 0} → (R → Id) → (R → RowKey) → List R → RowKey → Option R

@@ -8,7 +8,7 @@ use crate::{Answer, Fault, Keeper, Question};
 use mr_part::{Part, Scope};
 use mr_replica::Desk;
 use mr_tables::{Change, Tables};
-use std::alloc::{AllocError, Global};
+use std::alloc::Global;
 use std::marker::Model;
 
 /// A keeper with its rows in memory, a write-through cache. What is asked is answered from memory, and a change is made in the keeper
@@ -70,13 +70,11 @@ impl<K: Keeper> Cached<K> {
             return Ok(None);
         }
         match self.keeper.read() {
-            Ok(tables) => match Memory::over(self.alloc, tables) {
-                Some(memory) => Ok(Some(memory)),
-                None => {
-                    self.is_passed_over = true;
-                    Ok(None)
-                }
-            },
+            Ok(tables) => {
+                let memory = Memory::over(self.alloc, tables).ok();
+                self.is_passed_over = memory.is_none();
+                Ok(memory)
+            }
             Err(fault) => {
                 self.is_passed_over = fault == Fault::OutOfMemory;
                 Err(fault)
@@ -168,10 +166,7 @@ impl<K: Keeper> Keeper for Cached<K> {
         };
         let answer = memory.query(question);
         self.memory = Some(memory);
-        match answer {
-            Ok(answer) => Ok(answer),
-            Err(AllocError) => Err(Fault::OutOfMemory),
-        }
+        Ok(answer?)
     }
 
     fn read(&mut self) -> Result<Tables, Fault> {
@@ -180,10 +175,7 @@ impl<K: Keeper> Keeper for Cached<K> {
         };
         let answer = memory.read();
         self.memory = Some(memory);
-        match answer {
-            Ok(tables) => Ok(tables),
-            Err(AllocError) => Err(Fault::OutOfMemory),
-        }
+        Ok(answer?)
     }
 
     fn apply(&mut self, change: &Change) -> Result<(), Fault> {

@@ -1,46 +1,53 @@
-ghost use Rattle.std.specs.Prelude.{◌≡◌, ◌∷◌, [], bytes_eq, false, filter, find, IsTrue, IfOk, OnOk, OnErr};
+ghost use Rattle.std.specs.Prelude.{◌≡◌, ◌&&◌, ◌||◌, ◌∷◌, [], Bool, bytes_eq, false, filter, find, map, IsTrue, IfOk, OnOk, OnErr};
+ghost use Rattle.std.specs.List.{list_any};
 ghost use Rattle.std.specs.List.Sorted.{IsPermutation};
 ghost use Rattle.std.specs.Option.{option_copied};
 ghost use Rattle.std.specs.Ordering.{is_eq, is_gt};
+ghost use Rattle.mr_model.specs.Queries.{log_id};
+ghost use Rattle.mr_model.specs.Scopes.{is_named};
+ghost use Rattle.mr_model.specs.Tables.{LogRow as RowOfLog};
 ghost use Rattle.mr_model.specs.Writes.{Id, same_id};
-ghost use Rattle.mr_tables.specs.Change.{id_before, put, rows_without};
-ghost use Rattle.mr_tables.proofs.Putting.{InOrder};
+ghost use Rattle.mr_base.specs.Batches.{item_of};
+ghost use Rattle.mr_tables.specs.Change.{id_before, put, put_all, rows_without};
+ghost use Rattle.mr_tables.specs.TableOrders.{InOrder};
+ghost use Rattle.mr_replay.specs.Holds.{AreDistinct};
 ghost use Rattle.mr_part.specs.ScopeOf.{scope_of};
 ghost use Rattle.mr_store.specs.declared.row_key.RowKey.{RowKey as Key};
 ghost use Rattle.mr_store.specs.Calendar.{AreListed};
 ghost use Rattle.mr_store.specs.Keyed.{cells_of_id, if_passes};
 ghost use Rattle.mr_store.specs.Needed.{is_log_needed};
 ghost use Rattle.mr_store.specs.Picked.{is_day_asked};
-ghost use Rattle.mr_store.specs.RowKeys.{has, key_cmp, room_key, row_at, AreBetween, IsIndexed};
+ghost use Rattle.mr_store.specs.RowKeys.{has, key_cmp, room_key, row_at, AreBetween, AreThose, IsIndexed};
 
-use crate::row_key::{KeyedRow, RowKey, end_key, ends_for};
-use crate::row_map::RowMap;
-use mr_base::{Day, RoomName, ServerId};
-use mr_lists::rows::IdRow;
+use crate::row_key::{KeyedRow, RowKey, end_key, ends_for, number_end};
+use mr_base::{Day, Item, RoomName, ServerId, WriteId};
 use mr_part::Scope;
-use mr_tables::{BookingRow, LogRow};
+use mr_tables::{BookingRow, IdRow, LogRow};
 use std::alloc::{AllocError, Global};
-use std::collections::BTreeSet;
+use std::collections::{BTreeMap, BTreeSet};
 use std::marker::Model;
 
-/// The rows of a table by the ids of their writes and by a second key.
+/// The rows of a table by the ids of their writes and by a second key. A row is found, put and taken away in steps that go by the
+/// logarithm of how many there are.
 #[derive(Drop)]
 pub(crate) struct Indexed<R: KeyedRow> {
-    rows: RowMap<R>,
+    alloc: Global,
+    rows: BTreeMap<(ServerId, u32), R>,
     /// The second key of each of them.
     keys: BTreeSet<RowKey>,
 }
 
 impl<R: KeyedRow> Model for Indexed<R> {
-    ghost use Rattle.mr_store.specs.RowKeys.{index_code, IndexView, IsIndexed};
+    ghost use Rattle.std.specs.Map.{values_of};
+    ghost use Rattle.mr_store.specs.RowKeys.{index_code, IndexView, IsTable};
 
     ghost Value = { IndexView R };
 
     ghost coded = { index_code R.code };
 
-    ghost view = { λ t. record { rows = t.rows; keys = t.keys } };
+    ghost view = { λ t. record { rows = values_of t.rows.entries; keys = t.keys } };
 
-    ghost invariant = { λ t. IsIndexed R.id R.second_key t.rows t.keys };
+    ghost invariant = { λ t. IsTable R.id R.second_key t.rows.entries t.keys };
 }
 
 impl<R: KeyedRow> Indexed<R> {
@@ -49,7 +56,8 @@ impl<R: KeyedRow> Indexed<R> {
         ensures { result.rows ≡ [] }
     {
         Indexed {
-            rows: RowMap::new(alloc),
+            alloc,
+            rows: BTreeMap::new(alloc),
             keys: BTreeSet::new(alloc),
         }
     }
@@ -60,17 +68,48 @@ impl<R: KeyedRow> Indexed<R> {
         ensures { IfOk result (λ table. table.rows ≡ rows.items) }
     {
         let mut table = Indexed::new(alloc);
-        for row in rows {
-            table.put(row)?;
-        }
+        table.put_each(rows)?;
         Ok(table)
     }
 
-    /// The rows by their ids.
-    pub(crate) fn rows(&self) -> &RowMap<R>
-        ensures { result.now ≡ self.now.rows }
+    /// Puts these rows, each in the place of the one of its write. If memory refuses, some of them are put.
+    fn put_each(&mut self, rows: Vec<R>) -> Result<(), AllocError>
+        ensures { OnOk result (self.new.rows ≡ put_all id_before R.id rows.items self.old.rows) }
     {
-        &self.rows
+        for row in rows {
+            self.put(row)?;
+        }
+        Ok(())
+    }
+
+    /// The row of this write.
+    pub(crate) fn get(&self, id: WriteId) -> Option<&R>
+        ensures row { option_copied result ≡ find (λ r. same_id (R.id r) id) self.now.rows }
+        ensures order { InOrder id_before R.id self.now.rows }
+    {
+        self.at_cells(cells_of(id))
+    }
+
+    /// The row of the write with these cells.
+    fn at_cells(&self, cells: (ServerId, u32)) -> Option<&R>
+        ensures row { (id : Id) → cells ≡ cells_of_id id → option_copied result ≡ find (λ r. same_id (R.id r) id) self.now.rows }
+        ensures order { InOrder id_before R.id self.now.rows }
+    {
+        self.rows.get(&cells)
+    }
+
+    /// Whether there is a row of this write.
+    pub(crate) fn has(&self, id: WriteId) -> bool
+        ensures { result ≡ list_any (λ r. same_id (R.id r) id) self.now.rows }
+    {
+        self.rows.contains_key(&cells_of(id))
+    }
+
+    /// Says to proofs that no id stands twice. It does nothing.
+    pub(crate) fn is_by_id(&self)
+        ensures { AreDistinct (map R.id self.now.rows) }
+    {
+        let _ = &self.rows;
     }
 
     /// Puts the row, in the place of the one of its write, which is returned and whose key stays. If memory refuses, the rows stay;
@@ -84,7 +123,7 @@ impl<R: KeyedRow> Indexed<R> {
         ensures index { IsIndexed R.id R.second_key self.old.rows self.old.keys }
     {
         self.keys.insert(row.second_key())?;
-        self.rows.put(row)
+        Ok(self.rows.insert(row.cells_of_id(), row)?)
     }
 
     /// Takes the row of the write with these cells away, if there is one. Its key stays.
@@ -92,7 +131,7 @@ impl<R: KeyedRow> Indexed<R> {
         ensures rows { (id : Id) → cells ≡ cells_of_id id → self.new.rows ≡ rows_without R.id (id ∷ []) self.old.rows }
         ensures keys { self.new.keys ≡ self.old.keys }
     {
-        self.rows.take(cells)
+        self.rows.remove(&cells)
     }
 
     /// Takes the key of this row out, unless it is the key of a row that is there.
@@ -105,29 +144,62 @@ impl<R: KeyedRow> Indexed<R> {
         }
     }
 
+    /// Equal rows, in the order of their ids.
+    pub(crate) fn copies(&self) -> Result<Vec<R>, AllocError>
+        ensures { IfOk result (λ rows. rows.items ≡ self.now.rows) }
+    {
+        let mut rows = Vec::new(self.alloc);
+        for row in self.rows.values() {
+            rows.push(row.copied(self.alloc)?)?;
+        }
+        Ok(rows)
+    }
+
+    /// A copy of the row of this write, if it is of that room.
+    pub(crate) fn row_in(&self, id: WriteId, room: &RoomName) -> Result<Option<R>, AllocError>
+        ensures { IfOk result (λ found. found ≡ find (λ r. same_id (R.id r) id && bytes_eq (R.room r) room.now) self.now.rows) }
+    {
+        match self.get(id) {
+            Some(row) if row.is_in(room) => Ok(Some(row.copied(self.alloc)?)),
+            _ => Ok(None),
+        }
+    }
+
+    /// A list with a copy of the row of this write, if there is one.
+    pub(crate) fn with_id(&self, id: WriteId) -> Result<Vec<R>, AllocError>
+        ensures those { IfOk result (λ rows. rows.items ≡ filter (λ r. same_id (R.id r) id) self.now.rows) }
+        ensures order { InOrder id_before R.id self.now.rows }
+    {
+        let mut rows = Vec::new(self.alloc);
+        if let Some(row) = self.get(id) {
+            rows.push(row.copied(self.alloc)?)?;
+        }
+        Ok(rows)
+    }
+
     /// Copies of the rows of a room.
-    pub(crate) fn rows_in(&self, alloc: Global, room: &RoomName) -> Result<Vec<R>, AllocError>
+    pub(crate) fn rows_in(&self, room: &RoomName) -> Result<Vec<R>, AllocError>
         requires { (row : R) → R.second_key row ≡ room_key (R.room row) (R.id row) }
         ensures { IfOk result (λ rows. IsPermutation (filter (λ r. bytes_eq (R.room r) room.now) self.now.rows) rows.items) }
     {
         let first = end_key(0, room, &None);
         let last = end_key(2, room, &None);
-        let mut rows = self.between(alloc, &first, &last)?;
+        let mut rows = self.between(&first, &last)?;
         // Each of them is of the room; the test is for the prover.
         rows.retain(|row| row.is_in(room));
         Ok(rows)
     }
 
     /// Copies of the rows with keys from the first to the last, in the order of the keys.
-    fn between(&self, alloc: Global, first: &RowKey, last: &RowKey) -> Result<Vec<R>, AllocError>
+    fn between(&self, first: &RowKey, last: &RowKey) -> Result<Vec<R>, AllocError>
         requires { is_gt (key_cmp first.now last.now) ≡ false }
         ensures found { IfOk result (λ rows. AreBetween R.second_key first.now last.now self.now.rows rows.items) }
         ensures order { InOrder id_before R.id self.now.rows }
     {
-        let mut rows = Vec::new(alloc);
+        let mut rows = Vec::new(self.alloc);
         for key in self.keys.range(*first..=*last) {
             if let Some(row) = self.row_at(key) {
-                rows.push(row.copied(alloc)?)?;
+                rows.push(row.copied(self.alloc)?)?;
             }
         }
         Ok(rows)
@@ -137,8 +209,14 @@ impl<R: KeyedRow> Indexed<R> {
     fn row_at(&self, key: &RowKey) -> Option<&R>
         ensures { option_copied result ≡ row_at R.id R.second_key self.now.rows key.now }
     {
-        if_keyed(self.rows.at_cells((key.server, key.n)), key)
+        if_keyed(self.at_cells((key.server, key.n)), key)
     }
+}
+
+fn cells_of(id: WriteId) -> (ServerId, u32)
+    ensures { result ≡ cells_of_id id }
+{
+    (id.server, id.n)
 }
 
 /// The row, if it has this key.
@@ -146,14 +224,8 @@ fn if_keyed<'a, R: KeyedRow>(row: Option<&'a R>, key: &RowKey) -> Option<&'a R>
     ensures { option_copied result ≡ if_passes (λ r. is_eq (key_cmp (R.second_key r) key.now)) (option_copied row.entry) }
 {
     match row {
-        Some(row) => {
-            if row.second_key().cmp(key).is_eq() {
-                Some(row)
-            } else {
-                None
-            }
-        }
-        None => None,
+        Some(row) if row.second_key().cmp(key).is_eq() => Some(row),
+        _ => None,
     }
 }
 
@@ -161,7 +233,6 @@ impl Indexed<BookingRow> {
     /// Copies of the bookings of a room, of a day or of all days, in the order of a calendar.
     pub(crate) fn listed(
         &self,
-        alloc: Global,
         room: &RoomName,
         day: &Option<Day>,
     ) -> Result<Vec<BookingRow>, AllocError>
@@ -169,7 +240,7 @@ impl Indexed<BookingRow> {
     {
         let first = end_key(0, room, day);
         let last = end_key(2, room, day);
-        let mut rows = self.between(alloc, &first, &last)?;
+        let mut rows = self.between(&first, &last)?;
         // Each of them is asked for; the test is for the prover.
         rows.retain(|row| row.room == *room && is_on(row.day, day));
         Ok(rows)
@@ -187,16 +258,45 @@ fn is_on(day: Day, asked: &Option<Day>) -> bool
 }
 
 impl Indexed<LogRow> {
-    /// Copies of the rows of the log that a command of this scope may need, in the order of their ids.
-    pub(crate) fn needed(&self, alloc: Global, scope: &Scope<'_>) -> Result<Vec<LogRow>, AllocError>
-        ensures { IfOk result (λ rows. rows.items ≡ filter (is_log_needed (scope_of scope.now)) self.now.rows) }
+    /// Copies of the rows of the log that a command of this scope may need where so many commits are known, in the order of their ids.
+    pub(crate) fn needed(&self, known: u64, scope: &Scope<'_>) -> Result<Vec<LogRow>, AllocError>
+        ensures { IfOk result (λ rows. rows.items ≡ filter (is_log_needed known (scope_of scope.now)) self.now.rows) }
     {
-        if let Scope::Items(_) = *scope {
-            return self.rows.copies(alloc);
+        let (first, last) = ends_for(known, scope);
+        let mut rows = self.between(&first, &last)?;
+        rows.sort_by_cached_key(|row| row.cells_of_id())?;
+        match *scope {
+            Scope::Items(items) => self.with_named(rows, items),
+            _ => Ok(rows),
         }
-        let (first, last) = ends_for(scope);
-        let mut rows = self.between(alloc, &first, &last)?;
-        rows.sort_by_key(|row| row.cells_of_id())?;
-        Ok(rows)
+    }
+
+    /// These rows and copies of those that the items name, in the order of their ids.
+    fn with_named(&self, rows: Vec<LogRow>, items: &[Item]) -> Result<Vec<LogRow>, AllocError>
+        requires { InOrder id_before log_id rows.items }
+        ensures { (p : RowOfLog → Bool) → rows.items ≡ filter p self.now.rows
+            → IfOk result (λ all. all.items ≡ filter (λ r. p r || is_named (map item_of items.now) r) self.now.rows) }
+    {
+        let mut all = Indexed::of(self.alloc, rows)?;
+        for item in items {
+            all.put_each(self.named_by(item)?)?;
+        }
+        all.copies()
+    }
+
+    /// Copies of the rows that an item names.
+    fn named_by(&self, item: &Item) -> Result<Vec<LogRow>, AllocError>
+        ensures those { IfOk result (λ rows. AreThose (is_named (item_of item.now ∷ [])) self.now.rows rows.items) }
+        ensures order { InOrder id_before log_id self.now.rows }
+    {
+        match item {
+            Item::W(write) => self.with_id(write.stamp.id()),
+            Item::C { seq, id } => {
+                let number = seq.number();
+                let mut rows = self.between(&number_end(0, number), &number_end(2, number))?;
+                rows.append(&mut self.with_id(*id)?)?;
+                Ok(rows)
+            }
+        }
     }
 }

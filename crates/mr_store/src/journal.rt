@@ -15,6 +15,7 @@ use std::collections::BTreeSet;
 /// What a change has done to a table so far. Either all of it is taken back or it is settled, which takes no memory.
 #[derive(Drop)]
 pub(crate) struct Journal<R> {
+    alloc: Global,
     /// For each row that was put the cells of its id, and the row in whose place it came. The latest is the last.
     pub puts: Vec<((ServerId, u32), Option<R>)>,
     /// The cells of the ids whose rows are still to go: none is that of a row that was put.
@@ -27,29 +28,29 @@ impl<R: KeyedRow> Journal<R> {
         ensures { IsFresh result }
     {
         Journal {
+            alloc,
             puts: Vec::new(alloc),
             going: BTreeSet::new(alloc),
         }
     }
-}
 
-/// Puts equal rows, and notes whose rows are to go, as far as memory lasts.
-pub(crate) fn put_all<R: KeyedRow>(
-    table: &mut Indexed<R>,
-    alloc: Global,
-    gone: &[WriteId],
-    news: &[R],
-    journal: &mut Journal<R>,
-) -> Result<(), AllocError>
-    requires { IsFresh journal.old }
-    ensures steps { AreSteps R.id (IsNoted R.second_key table.new.keys) (reverse journal.new.puts.items) table.old.rows table.new.rows }
-    ensures made { OnOk result (rows_but R.id (is_going journal.new.going) table.new.rows ≡ put_all id_before R.id news.now (rows_without R.id gone.now table.old.rows)) }
-{
-    note_all(&mut journal.going, gone)?;
-    for row in news {
-        put_one(table, row.copied(alloc)?, journal)?;
+    /// Puts equal rows, and notes whose rows are to go, as far as memory lasts.
+    pub(crate) fn put_all(
+        &mut self,
+        table: &mut Indexed<R>,
+        gone: &[WriteId],
+        news: &[R],
+    ) -> Result<(), AllocError>
+        requires { IsFresh self.old }
+        ensures steps { AreSteps R.id (IsNoted R.second_key table.new.keys) (reverse self.new.puts.items) table.old.rows table.new.rows }
+        ensures made { OnOk result (rows_but R.id (is_going self.new.going) table.new.rows ≡ put_all id_before R.id news.now (rows_without R.id gone.now table.old.rows)) }
+    {
+        note_all(&mut self.going, gone)?;
+        for row in news {
+            put_one(table, row.copied(self.alloc)?, self)?;
+        }
+        Ok(())
     }
-    Ok(())
 }
 
 fn note_all(going: &mut BTreeSet<(ServerId, u32)>, gone: &[WriteId]) -> Result<(), AllocError>
@@ -117,7 +118,7 @@ fn step_back<R: KeyedRow>(table: &mut Indexed<R>, cells: (ServerId, u32), old: O
 pub(crate) fn settle<R: KeyedRow>(table: &mut Indexed<R>, journal: Journal<R>)
     ensures { table.new.rows ≡ rows_but R.id (is_going journal.going) table.old.rows }
 {
-    let Journal { puts, going } = journal;
+    let Journal { puts, going, .. } = journal;
     take_going(table, going);
     forget_old(table, puts);
 }

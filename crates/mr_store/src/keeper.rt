@@ -17,6 +17,7 @@ use mr_base::{Day, Refusal, RoomName, WriteId};
 use mr_part::{Part, Scope};
 use mr_replica::Desk;
 use mr_tables::{BookingRow, CancelRow, CancelledRow, Change, ErrorRow, PlaceRow, Tables};
+use std::alloc::AllocError;
 
 /// Why a keeper answers nothing.
 #[derive(Clone, Copy, Debug, PartialEq, Eq)]
@@ -25,6 +26,16 @@ pub enum Fault {
     OutOfMemory,
     /// The store failed for another cause, or its rows break their rules.
     Store,
+}
+
+impl From<AllocError> for Fault {
+    ghost use Rattle.mr_store.specs.declared.keeper.Fault.{Fault};
+
+    ghost from_gives = { λ _ fault. fault ≡ Fault.OutOfMemory };
+
+    fn from(_error: AllocError) -> Fault {
+        Fault::OutOfMemory
+    }
 }
 
 impl From<Fault> for Refusal {

@@ -1,16 +1,17 @@
-ghost use Rattle.std.specs.Prelude.{◌≡◌, Ok, IfErr, IfOk, IfSome, IsErr, OnErr};
+ghost use Rattle.std.specs.Prelude.{◌≡◌, Ok, IfErr, IfOk, IsErr, OnErr};
 ghost use Rattle.mr_model.specs.Replica.{opening};
 ghost use Rattle.mr_model.specs.Tables.{tables_of, Stands};
 ghost use Rattle.mr_store.specs.KeeperCalls.{failures_after};
+ghost use Rattle.mr_store.specs.KeeperLists.{IsDueOver};
 
 use crate::keeper::told;
 use crate::memory::Memory;
 use crate::{Answer, Fault, Keeper, Question};
-use mr_base::ServerId;
+use mr_base::{Refusal, ServerId};
 use mr_part::{Part, Scope};
 use mr_replica::Desk;
 use mr_tables::{Change, Tables};
-use std::alloc::{AllocError, Global};
+use std::alloc::Global;
 use std::marker::Model;
 
 /// The keeper with its tables in memory alone.
@@ -41,13 +42,14 @@ impl ListKeeper {
         }
     }
 
-    /// These tables, whatever they stand for, if the rows of each are in the order of their keys, and if memory takes them.
-    pub fn over(alloc: Global, tables: Tables) -> Option<ListKeeper>
-        ensures { IfSome result (λ keeper. keeper ≡ record { tables = tables; failures = 0 }) }
+    /// These tables, whatever they stand for. It is refused with 25 if the rows of a table aren't in the order of their keys, and else
+    /// only with 24, out of memory.
+    pub fn over(alloc: Global, tables: Tables) -> Result<ListKeeper, Refusal>
+        ensures over { IfOk result (λ keeper. keeper ≡ record { tables = tables; failures = 0 }) }
+        ensures due { IfErr result (IsDueOver tables) }
     {
-        let memory = Memory::over(alloc, tables)?;
-        Some(ListKeeper {
-            memory,
+        Ok(ListKeeper {
+            memory: Memory::over(alloc, tables)?,
             failures: 0,
         })
     }
@@ -91,23 +93,14 @@ impl Keeper for ListKeeper {
     }
 
     fn query(&mut self, question: &Question<'_>) -> Result<Answer, Fault> {
-        match self.memory.query(question) {
-            Ok(answer) => Ok(answer),
-            Err(AllocError) => Err(Fault::OutOfMemory),
-        }
+        Ok(self.memory.query(question)?)
     }
 
     fn read(&mut self) -> Result<Tables, Fault> {
-        match self.memory.read() {
-            Ok(tables) => Ok(tables),
-            Err(AllocError) => Err(Fault::OutOfMemory),
-        }
+        Ok(self.memory.read()?)
     }
 
     fn apply(&mut self, change: &Change) -> Result<(), Fault> {
-        match self.memory.apply(change) {
-            Ok(()) => Ok(()),
-            Err(AllocError) => Err(Fault::OutOfMemory),
-        }
+        Ok(self.memory.apply(change)?)
     }
 }

@@ -4,24 +4,24 @@ ghost use Rattle.mr_model.specs.Queries.{error_id, cancelled_id, cancel_id};
 ghost use Rattle.mr_model.specs.Tables.{LogRow as RowOfLog};
 ghost use Rattle.mr_model.specs.Writes.{Id};
 ghost use Rattle.mr_part.specs.ScopeOf.{scope_of};
-ghost use Rattle.mr_replay.specs.Index.{padded};
 ghost use Rattle.mr_store.specs.declared.row_key.RowKey.{RowKey as Key};
-ghost use Rattle.mr_store.specs.Needed.{is_log_needed};
-ghost use Rattle.mr_store.specs.RowKeys.{behind, blank, booking_key, end_key, id_in, is_between, key_cmp, log_end, log_key, room_key};
+ghost use Rattle.mr_store.specs.Needed.{is_ranged};
+ghost use Rattle.mr_store.specs.RowKeys.{blank, booking_key, end_key, id_in, is_between, key_cmp, log_end, log_key, number_end, room_key, tail_end};
 
 use mr_base::{Day, RoomName, ServerId};
-use mr_lists::rows::IdRow;
 use mr_part::Scope;
-use mr_tables::{BookingRow, CancelRow, CancelledRow, ErrorRow, LogRow};
+use mr_part::tail::{Tail, tail_of};
+use mr_replay::padded;
+use mr_tables::{BookingRow, CancelRow, CancelledRow, ErrorRow, IdRow, LogRow};
 
-/// Where a row stands by its second key: a booking by room, day, start and id, a row of the log by its number and id, and the others by
-/// room and id. The room's name is filled up with zeros.
+/// Where a row stands by its second key: a booking by room, day, start and id, a committed row of the log by its number and id, a
+/// tentative one by its stamp, and the others by room and id. The room's name is filled up with zeros.
 #[derive(Clone, Copy, Debug, PartialEq, Eq, PartialOrd, Ord)]
 pub(crate) struct RowKey {
     pub room: [u8; 16],
     /// 1 for a row, and 3 for a tentative one of the log. Ends of ranges have 0 in front of all of them, 2 and 4 behind.
     pub edge: u8,
-    /// The year of a booking, or the number of a row of the log.
+    /// The year of a booking, the number of a committed row of the log, or the time of a tentative one.
     pub number: u64,
     pub month: u8,
     pub day: u8,
@@ -51,10 +51,14 @@ impl KeyedRow for LogRow {
     ghost has_id = { λ row. refl };
 
     fn second_key(&self) -> RowKey {
-        let edge = if self.seq == 0 { 3 } else { 1 };
+        let (edge, number) = if self.seq == 0 {
+            (3, self.time)
+        } else {
+            (1, self.seq)
+        };
         RowKey {
             edge,
-            number: self.seq,
+            number,
             server: self.server,
             n: self.n,
             ..blank([0; 16])
@@ -146,16 +150,17 @@ pub(crate) fn end_key(edge: u8, room: &RoomName, day: &Option<Day>) -> RowKey
     }
 }
 
-/// The ends of the keys of the rows of the log that a command of this scope may need.
-pub(crate) fn ends_for(scope: &Scope<'_>) -> (RowKey, RowKey)
+/// The ends of the keys of the rows of the log that a command of this scope may need where so many commits are known, but for those
+/// that a received batch names.
+pub(crate) fn ends_for(known: u64, scope: &Scope<'_>) -> (RowKey, RowKey)
     ensures forward { is_gt (key_cmp result.0 result.1) ≡ false }
-    ensures needed { (row : RowOfLog) → is_between result.0 result.1 (log_key row) ≡ is_log_needed (scope_of scope.now) row }
+    ensures ranged { (row : RowOfLog) → is_between result.0 result.1 (log_key row) ≡ is_ranged known (scope_of scope.now) row }
 {
     match *scope {
         Scope::NextCommits(_) => (log_end(2), log_end(4)),
-        Scope::UpTo(number) => (log_end(0), behind(number)),
-        Scope::Above(commits) => (behind(commits), log_end(4)),
-        Scope::Items(_) => (log_end(0), log_end(4)),
+        Scope::UpTo(number) => (log_end(0), number_end(2, number)),
+        Scope::Above(commits) => (number_end(2, commits), log_end(4)),
+        Scope::Items(items) => (tail_end(tail_of(items, known)), log_end(4)),
         Scope::Nothing => (log_end(4), log_end(4)),
         Scope::InRoom(_) => (log_end(4), log_end(4)),
         Scope::OfTarget(_) => (log_end(4), log_end(4)),
@@ -172,14 +177,30 @@ fn log_end(edge: u8) -> RowKey
     }
 }
 
-/// The key behind the committed rows of the log up to this number.
-fn behind(number: u64) -> RowKey
-    ensures { result ≡ behind number }
+/// The key in front of the committed rows of the log of this number, if the edge is 0, and the one behind them if it is 2.
+pub(crate) fn number_end(edge: u8, number: u64) -> RowKey
+    ensures { result ≡ number_end edge number }
 {
     RowKey {
         number,
-        day_edge: 2,
+        day_edge: edge,
         ..blank([0; 16])
+    }
+}
+
+/// The key in front of the tentative rows of the log that are in this tail of a batch.
+fn tail_end(tail: Tail) -> RowKey
+    ensures { result ≡ tail_end tail }
+{
+    match tail {
+        Tail::Everything => log_end(2),
+        Tail::From(time, server) => RowKey {
+            edge: 3,
+            number: time,
+            server,
+            ..blank([0; 16])
+        },
+        Tail::Nothing => log_end(4),
     }
 }
 
@@ -198,14 +219,4 @@ fn blank(room: [u8; 16]) -> RowKey
         server: ServerId::new(1).unwrap(),
         n: 0,
     }
-}
-
-/// The name, with zeros up to 16 bytes.
-fn padded(room: &RoomName) -> [u8; 16]
-    ensures { result ≡ padded room.now }
-{
-    let name = room.as_str().as_bytes();
-    let mut bytes = [0; 16];
-    bytes[..name.len()].copy_from_slice(name);
-    bytes
 }

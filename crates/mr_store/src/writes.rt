@@ -2,7 +2,7 @@ ghost use Rattle.std.specs.Prelude.{◌≡◌, OnOk, OnErr};
 ghost use Rattle.mr_store.specs.Writes.{changed_rows, rows_of, rows_settled, AreAllFresh, AreAllSteps, AreNone};
 
 use crate::indexed::Indexed;
-use crate::journal::{Journal, put_all, settle, take_back};
+use crate::journal::{Journal, settle, take_back};
 use mr_tables::{BookingRow, CancelRow, CancelledRow, Change, ErrorRow, LogRow};
 use std::alloc::{AllocError, Global};
 
@@ -52,7 +52,7 @@ impl Writes {
             cancelled: Journal::new(alloc),
             cancels: Journal::new(alloc),
         };
-        match self.put(alloc, change, &mut journals) {
+        match self.put(change, &mut journals) {
             Ok(()) => {
                 self.settle(journals);
                 Ok(())
@@ -64,51 +64,24 @@ impl Writes {
         }
     }
 
-    fn put(
-        &mut self,
-        alloc: Global,
-        change: &Change,
-        journals: &mut Journals,
-    ) -> Result<(), AllocError>
+    fn put(&mut self, change: &Change, journals: &mut Journals) -> Result<(), AllocError>
         requires { AreAllFresh journals.old }
         ensures steps { AreAllSteps journals.new self.old self.new }
         ensures made { OnOk result (rows_settled journals.new (rows_of self.new) ≡ changed_rows change.now (rows_of self.old)) }
     {
-        put_all(
-            &mut self.log,
-            alloc,
-            &change.dropped,
-            &change.log,
-            &mut journals.log,
-        )?;
-        put_all(
-            &mut self.booking,
-            alloc,
-            &change.unbooked,
-            &change.booking,
-            &mut journals.booking,
-        )?;
-        put_all(
-            &mut self.errorlog,
-            alloc,
-            &change.unlogged,
-            &change.errorlog,
-            &mut journals.errorlog,
-        )?;
-        put_all(
-            &mut self.cancelled,
-            alloc,
-            &change.uncancelled,
-            &change.cancelled,
-            &mut journals.cancelled,
-        )?;
-        put_all(
-            &mut self.cancels,
-            alloc,
-            &[],
-            &change.cancels,
-            &mut journals.cancels,
-        )
+        journals
+            .log
+            .put_all(&mut self.log, &change.dropped, &change.log)?;
+        journals
+            .booking
+            .put_all(&mut self.booking, &change.unbooked, &change.booking)?;
+        journals
+            .errorlog
+            .put_all(&mut self.errorlog, &change.unlogged, &change.errorlog)?;
+        journals.cancelled.put_all(&mut self.cancelled, &change.uncancelled, &change.cancelled)?;
+        journals
+            .cancels
+            .put_all(&mut self.cancels, &[], &change.cancels)
     }
 
     fn take_back(&mut self, journals: Journals, change: &Change)

@@ -468,9 +468,7 @@ fn faults_of_loads(
     commits: u64,
     count: u32,
 ) -> Result<(Option<Fault>, Option<Fault>), Refusal> {
-    let Some(mut keeper) = ListKeeper::over(alloc, tables(alloc, commits, count)?) else {
-        return Err(Refusal::OutOfMemory);
-    };
+    let mut keeper = ListKeeper::over(alloc, tables(alloc, commits, count)?)?;
     let desk = keeper.load().err();
     Ok((desk, fault_of_part(&mut keeper)))
 }

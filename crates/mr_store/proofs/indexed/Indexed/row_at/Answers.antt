@@ -1,7 +1,7 @@
 use Rattle.std.proofs.Common.{ap, refl, ◌∙◌}
 use Rattle.std.specs.Ordering.{is_eq}
 use Rattle.mr_store.specs.Keyed.{if_passes}
-use Rattle.mr_store.specs.RowKeys.{id_in, key_cmp, row_at}
+use Rattle.mr_store.specs.RowKeys.{id_in, key_cmp}
 use Rattle.mr_store.proofs.indexed.Indexed.row_at.Goals as goal
 
 pub returns : goal.returns
@@ -9,4 +9,3 @@ returns g c =
     let key = c.args.key.now in
     c.if_keyed.ensures
     ∙ ap (if_passes (λ r. is_eq (key_cmp (g.R.KeyedRow.second_key r) key))) (c.at_cells.ensures.row (id_in key) refl)
-    ∙ ap (λ v. row_at g.R.IdRow.id g.R.KeyedRow.second_key v.rows key) c.self.view_is

@@ -1,13 +1,27 @@
-use Rattle.std.proofs.Common.{◌∷◌, [], refl, sym, ap, subst, ◌∙◌}
+use Rattle.std.proofs.Common.{◌∷◌, [], sym, ap, subst, ◌∙◌}
+use Rattle.std.specs.BTreeMap.{is_at}
+use Rattle.std.specs.Map.{values_of, remove_entry}
+use Rattle.mr_model.specs.Writes.{Id}
 use Rattle.mr_tables.specs.Change.{rows_without}
+use Rattle.mr_store.specs.Keyed.{cells_cmp, IsKeyed}
 use Rattle.mr_store.specs.RowKeys.{IndexView, IsIndexed}
 use Rattle.mr_store.proofs.ByKeys.{index_without}
+use Rattle.mr_store.proofs.RowsById.{rows_taken, IsKeyed-taken}
 use Rattle.mr_store.proofs.indexed.Indexed.take.Goals as goal
 
 pub invariant_of-self : goal.invariant_of-self
 invariant_of-self g c =
-    subst (λ rows. IsIndexed g.R.IdRow.id g.R.KeyedRow.second_key rows c.self.inside.keys) (sym (c.take.ensures (record { server = c.args.cells.0; n = c.args.cells.1 }) refl))
-    (index_without g.R.IdRow.id g.R.KeyedRow.second_key g.met.R.KeyedRow.has_id (record { server = c.args.cells.0; n = c.args.cells.1 }) c.self.inside.rows c.self.inside.keys c.self.invariant)
+    let id = g.R.IdRow.id in
+    let old = c.self.inside.rows.entries in
+    let i : Id = record { server = c.args.cells.0; n = c.args.cells.1 } in
+    record {
+      keyed = subst (IsKeyed id) (sym c.remove.ensures.entries) (IsKeyed-taken id old i c.self.invariant.keyed);
+      index = subst (λ rows. IsIndexed id g.R.KeyedRow.second_key rows c.self.inside.keys) (sym (ap values_of c.remove.ensures.entries ∙ rows_taken id old i c.self.invariant.keyed))
+          (index_without id g.R.KeyedRow.second_key g.met.R.KeyedRow.has_id i (values_of old) c.self.inside.keys c.self.invariant.index);
+    }
 
 pub returns-clause-rows : goal.returns-clause-rows
-returns-clause-rows g c = λ i is. c.take.ensures i is ∙ ap (λ v. rows_without g.R.IdRow.id (i ∷ []) (IndexView.rows v)) c.self.view_is
+returns-clause-rows g c = λ i is.
+    let id = g.R.IdRow.id in
+    let old = c.self.inside.rows.entries in
+    ap values_of (c.remove.ensures.entries ∙ ap (λ k. remove_entry (is_at (cells_cmp k)) old) is) ∙ rows_taken id old i c.self.invariant.keyed ∙ ap (λ v. rows_without id (i ∷ []) (IndexView.rows v)) c.self.view_is

@@ -20,16 +20,16 @@ pub returns-in-NextCommits : goal.returns-in-NextCommits
 returns-in-NextCommits c =
     let t = c.args.self.now in
     let n = c.in-NextCommits.field-0 in
-    told c.args.scope.now (NextCommits n) t c.rows_to_commit.result (λ s. with_rows t (filter (is_log_needed (scope_of s)) t.log) [] [] t.cancelled) c.in-NextCommits.is (commits_scope t n) c.rows_to_commit.ensures
+    told c.args.scope.now (NextCommits n) t c.rows_to_commit.result (λ s. with_rows t (filter (is_log_needed t.meta.commits (scope_of s)) t.log) [] [] t.cancelled) c.in-NextCommits.is (commits_scope t n) c.rows_to_commit.ensures
 
 pub returns-in-UpTo : goal.returns-in-UpTo
 returns-in-UpTo c =
     let t = c.args.self.now in
     let n = c.in-UpTo.field-0 in
-    told c.args.scope.now (UpTo n) t c.rows_of_log.result (λ s. with_rows t (filter (is_log_needed (scope_of s)) t.log) [] [] []) c.in-UpTo.is (up_to_scope t n) c.rows_of_log.ensures
+    told c.args.scope.now (UpTo n) t c.rows_of_log.result (λ s. with_rows t (filter (is_log_needed t.meta.commits (scope_of s)) t.log) [] [] []) c.in-UpTo.is (up_to_scope t n) c.rows_of_log.ensures
 
 pub returns-in-Above : goal.returns-in-Above
 returns-in-Above c =
     let t = c.args.self.now in
     let n = c.in-Above.field-0 in
-    told c.args.scope.now (Above n) t c.rows_of_log-in-Above.result (λ s. with_rows t (filter (is_log_needed (scope_of s)) t.log) [] [] []) c.in-Above.is (above_scope t n) c.rows_of_log-in-Above.ensures
+    told c.args.scope.now (Above n) t c.rows_of_log-in-Above.result (λ s. with_rows t (filter (is_log_needed t.meta.commits (scope_of s)) t.log) [] [] []) c.in-Above.is (above_scope t n) c.rows_of_log-in-Above.ensures
