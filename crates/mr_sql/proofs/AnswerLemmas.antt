@@ -13,13 +13,14 @@ use Rattle.mr_model.specs.Queries.{booking_id, error_id, cancelled_id, cancel_id
 use Rattle.mr_model.specs.Dropped.{Has}
 use Rattle.mr_model.proofs.Members.{find_none}
 use Rattle.mr_tables.proofs.Putting.{OneAKey}
-use Rattle.mr_rows.specs.Database.{tables_in}
-use Rattle.mr_rows.specs.RowQuestions.{is_booking_asked}
-use Rattle.mr_rows.proofs.FirstLemmas.{bookings_apart, errors_apart, cancelled_apart, cancels_apart}
+use Rattle.mr_rows.specs.Database.{in_order, tables_in}
+use Rattle.mr_rows.specs.RowCells.{booking_row_from, error_in, cancelled_in, cancel_row_from}
+use Rattle.mr_rows.specs.Form.{booking_form, error_form, cancelled_form, cancel_form}
+use Rattle.mr_rows.proofs.FirstLemmas.{ids_apart}
 use Rattle.mr_rows.proofs.ValueLemmas.{among_one, or_false}
-use Rattle.mr_store.specs.Picked.{is_day_asked, booking_before, AreBookings, find_booking, find_error, find_cancelled, find_cancel, IsPlaceOf}
+use Rattle.mr_store.specs.Picked.{is_day_asked, booking_before, picked_errors, picked_cancelled, picked_cancels, AreBookings, find_booking, find_error, find_cancelled, find_cancel, IsPlaceOf}
 use Rattle.mr_tables.specs.declared.place_rows.PlaceRow.TheVariants.{Booked, Logged, Cancelled, Cancel}
-use Rattle.mr_sql.specs.PlaceOfId.{AreRowsOf, AreCancelRowsOf, cancel_row_in, taken_in, error_row_in, chosen}
+use Rattle.mr_sql.specs.PlaceOfId.{cancel_row_in, taken_in, error_row_in, chosen}
 
 -- ---- a calendar
 
@@ -34,9 +35,25 @@ asked_both day room (r ∷ rows) = go (bytes_eq r.room room) (asked_both day roo
     go true ih = ap (λ more. cond (is_day_asked day r.day) (r ∷ more) more) ih
     go false ih = ih
 
-pub calendar_is : (room : Text) (day : Option Date) (t : Tables) (shown out : List BookingRow) → IsPermutation (filter (is_booking_asked room) t.booking) shown → IsPermutation (filter (λ r. is_day_asked day r.day) shown) out → IsSortedBy booking_before out
-    → AreBookings room day t out
-calendar_is room day t shown out read same sorted = (subst (λ xs. IsPermutation xs out) (asked_both day room t.booking) (IsPermutation-trans _ _ _ (IsPermutation-filter (λ r. is_day_asked day r.day) _ _ read) same), sorted)
+pub calendar_is : (room : Text) (day : Option Date) (trees : Trees) (shown out : List BookingRow) → IsPermutation (filter (λ row. bytes_eq row.room room) (in_order booking_form (trees 10))) shown → IsPermutation (filter (λ r. is_day_asked day r.day) shown) out
+    → IsSortedBy booking_before out → AreBookings room day (tables_in trees) out
+unfolding tables_in
+calendar_is room day trees shown out read same sorted =
+    (subst (λ xs. IsPermutation xs out) (asked_both day room (in_order booking_form (trees 10))) (IsPermutation-trans _ _ _ (IsPermutation-filter (λ r. is_day_asked day r.day) _ _ read) same), sorted)
+
+-- ---- the rows of a room in the other tables
+
+pub errors_are : (room : Text) (trees : Trees) (rows : List ErrorRow) → IsPermutation (filter (λ row. bytes_eq row.room room) (in_order error_form (trees 12))) rows → IsPermutation (picked_errors room (tables_in trees)) rows
+unfolding tables_in
+errors_are room trees rows same = same
+
+pub cancelled_are : (room : Text) (trees : Trees) (rows : List CancelledRow) → IsPermutation (filter (λ row. bytes_eq row.room room) (in_order cancelled_form (trees 16))) rows → IsPermutation (picked_cancelled room (tables_in trees)) rows
+unfolding tables_in
+cancelled_are room trees rows same = same
+
+pub cancels_are : (room : Text) (trees : Trees) (rows : List CancelRow) → IsPermutation (filter (λ row. bytes_eq row.room room) (in_order cancel_form (trees 18))) rows → IsPermutation (picked_cancels room (tables_in trees)) rows
+unfolding tables_in
+cancels_are room trees rows same = same
 
 -- ---- the one of the rows of an id that is of the room
 
@@ -112,10 +129,13 @@ find_kept {R} key room_of room id table one = find_both (λ r. same_id (key r) i
         one x y h k (among_one (key x) id (or_false (same_id (key x) id) ∙ e) ∙ sym (among_one (key y) id (or_false (same_id (key y) id) ∙ f)))
 
 pub chosen_is : (room : Text) (id : Id) (trees : Trees) (booking : Option BookingRow) (error : Option ErrorRow) (cancelled : Option CancelledRow) (cancel : Option CancelRow)
-    → AreRowsOf id (tables_in trees) booking error → AreCancelRowsOf id (tables_in trees) cancelled cancel → IsPlaceOf room id (tables_in trees) (chosen room booking error (taken_in room cancelled cancel))
-chosen_is room id trees booking error cancelled cancel rows others =
+    → booking ≡ find (λ r. same_id (booking_id r) id) (in_order booking_form (trees 10)) → error ≡ find (λ r. same_id (error_id r) id) (in_order error_form (trees 12))
+    → cancelled ≡ find (λ r. same_id (cancelled_id r) id) (in_order cancelled_form (trees 16)) → cancel ≡ find (λ r. same_id (cancel_id r) id) (in_order cancel_form (trees 18))
+    → IsPlaceOf room id (tables_in trees) (chosen room booking error (taken_in room cancelled cancel))
+unfolding tables_in
+chosen_is room id trees booking error cancelled cancel first second third last =
     booked_is room id (tables_in trees) booking error cancelled cancel
-    (find_kept booking_id (λ r. r.room) room id (tables_in trees).booking (bookings_apart trees) ∙ ap (keep (λ r. bytes_eq r.room room)) (sym rows.0))
-    (find_kept error_id (λ r. r.room) room id (tables_in trees).errorlog (errors_apart trees) ∙ ap (keep (λ r. bytes_eq r.room room)) (sym rows.1))
-    (find_kept cancelled_id (λ r. r.room) room id (tables_in trees).cancelled (cancelled_apart trees) ∙ ap (keep (λ r. bytes_eq r.room room)) (sym others.0))
-    (find_kept cancel_id (λ r. r.room) room id (tables_in trees).cancels (cancels_apart trees) ∙ ap (keep (λ r. bytes_eq r.room room)) (sym others.1))
+    (find_kept booking_id (λ r. r.room) room id (tables_in trees).booking (ids_apart booking_id booking_row_from (trees 10)) ∙ ap (keep (λ r. bytes_eq r.room room)) (sym first))
+    (find_kept error_id (λ r. r.room) room id (tables_in trees).errorlog (ids_apart error_id error_in (trees 12)) ∙ ap (keep (λ r. bytes_eq r.room room)) (sym second))
+    (find_kept cancelled_id (λ r. r.room) room id (tables_in trees).cancelled (ids_apart cancelled_id cancelled_in (trees 16)) ∙ ap (keep (λ r. bytes_eq r.room room)) (sym third))
+    (find_kept cancel_id (λ r. r.room) room id (tables_in trees).cancels (ids_apart cancel_id cancel_row_from (trees 18)) ∙ ap (keep (λ r. bytes_eq r.room room)) (sym last))

@@ -1,5 +1,5 @@
 -- What reads the tables of a replica fails only by the store.
-use Rattle.std.proofs.Common.{◌≡◌, ◌≢◌, ◌⊎◌, inl, inr, Bool, true, false, ℕ, Result, Ok, Err, length, IfErr, IsSome, IsTrue, refl, sym, ap, subst, ◌∙◌, arith}
+use Rattle.std.proofs.Common.{◌≡◌, ◌≢◌, inl, inr, Bool, true, false, Result, Ok, Err, length, IfErr, IsSome, IsTrue, refl, sym, subst, ◌∙◌, arith}
 use Rattle.sqlite_trees.specs.Tree.{Trees}
 use Rattle.sqlite_trees.specs.declared.error.StoreError.{StoreError}
 use Rattle.sqlite_trees.specs.declared.error.StoreError.TheVariants.{OutOfMemory, Io, Corrupt, Full, Broken, Unstorable}
@@ -23,7 +23,7 @@ use Rattle.mr_sql.specs.FailedReads.{FailsByStoreAlone}
 abbrev pub Rows : Trees → Type 0
 Rows trees = AreOurRows trees × (length (trees 0) ≡ 1)
 
-of_store : (old new : State) (e : Error) → e ≢ SqliteFailure code.OutOfMemory → IsOfStore old new e → StoreFailed old new
+pub of_store : (old new : State) (e : Error) → e ≢ SqliteFailure code.OutOfMemory → IsOfStore old new e → StoreFailed old new
 of_store old new e other (inr stopped) = inr (inr stopped.1)
 of_store old new e other (inl (k, same, had)) = go k same had
   where

@@ -1,5 +1,5 @@
 -- What an open finds of two files is known as well as what a second open would find: its rows are in order.
-use Rattle.std.proofs.Common.{inl, inr, sym, ap, subst}
+use Rattle.std.proofs.Common.{◌≡◌, inl, inr, None, sym, subst}
 use Rattle.std.proofs.Math.Logic.{∥∥₁_elim}
 use Rattle.sqlite_trees.specs.View.{IsOrdered}
 use Rattle.sqlite_trees.specs.Props.{IsOrdered-prop}
@@ -35,13 +35,13 @@ found_shelves image db (inr h) sound = λ table here.
     let among = (has_filtered _ (db.trees catalog_tree) found.0 found.1).0 in
     absurd (subst (λ rows. Has rows found.0) h.1.1 among)
 
-pub taken_found : (image : Image) (s : State) → Opens s → IsLive s → AreFoundIn image s.committed.trees → IsTaken s.committed.trees s
-taken_found image s opens live found =
+pub taken_found : (image : Image) (s : State) → Opens s → IsLive s → AreFoundIn image s.committed.trees → s.step_limit ≡ None → IsTaken s
+taken_found image s opens live found unlimited =
     let sound = (live opens.is_open).0 in
     record {
       is_open = opens.is_open;
-      trees_are = ap (λ (db : Database). db.trees) opens.clean;
       settled = opens.clean;
       sound = sound;
       shelves = found_shelves image s.now (subst (λ (db : Database). AreFoundIn image db.trees) (sym opens.clean) found) sound;
+      unlimited = unlimited;
     }

@@ -4,7 +4,7 @@ pub mod QuestionLemmas
 pub mod OpeningLemmas
 pub mod TakenLemmas
 pub mod FailedLemmas
-pub mod CrashLemmas
+pub mod OpeningLaws
 pub mod FreshLemmas
 pub mod FailedReads
 pub mod NumberLemmas

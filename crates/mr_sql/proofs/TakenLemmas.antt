@@ -1,6 +1,5 @@
 -- What is known of a database that was taken over: the rowids of its tables are integers and rise, and its rows, once read, are a keeper's.
-use Rattle.std.proofs.Common.{◌≡◌, ◌≢◌, ◌⊎◌, inl, inr, ℕ, pos, ◌+◌, List, [], ◌∷◌, true, Some, Ok, Err, Result, IfOk, IfErr, OnOk, IsTrue, refl, length, sym, ap, subst, subst₂, ◌∙◌, arith}
-use Rattle.std.specs.Prelude.{IsErrAnd}
+use Rattle.std.proofs.Common.{◌≡◌, ◌≢◌, ◌⊎◌, inl, inr, ℕ, pos, ◌+◌, List, [], ◌∷◌, true, refl, length, sym, ap, subst, ◌∙◌, arith}
 use Rattle.std.specs.List.{AllZip}
 use Rattle.std.specs.Ordering.{is_eq}
 use Rattle.std.proofs.lemmas.Cmp.{tied_itself}
@@ -17,23 +16,24 @@ use Rattle.sqlite_schema.specs.declared.schema.Schema.{Schema}
 use Rattle.sqlite_rules.specs.Lists.{Has}
 use Rattle.sqlite_rules.proofs.ListLemmas.{has_filtered}
 use Rattle.sqlite_rules.proofs.PlaceLemmas.{row_at_is}
-use Rattle.sqlite_catalog.specs.Listing.{IsSound, IsTableRow, Lists}
+use Rattle.sqlite_catalog.specs.Listing.{IsSound, IsTableRow}
 use Rattle.sqlite_catalog.proofs.ReadLemmas.{lists_once}
-use Rattle.sqlite.specs.Effect.{Database, IsDatabase}
+use Rattle.sqlite.specs.Effect.{Database}
 use Rattle.sqlite.specs.State.{State}
-use Rattle.mr_model.specs.Replica.{opening}
-use Rattle.mr_model.specs.Tables.{MetaRow, Stands}
+use Rattle.mr_model.specs.Tables.{MetaRow}
 use Rattle.mr_base.specs.declared.refusals.Refusal.{Refusal}
 use Rattle.mr_base.specs.declared.refusals.Refusal.TheVariants as refusal
 use Rattle.mr_rows.specs.Schema.{no_schema, first_schema, our_schema}
 use Rattle.mr_rows.specs.Database.{IsOurs, IsKept, tables_in}
-use Rattle.mr_rows.specs.Shelf.{HasShelves}
-use Rattle.mr_sql.specs.Found.{LeavesTables, IsTaken, IsTakenAs, IsFound, IsAdopted, IsResumed, Names, StaysAs}
-use Rattle.mr_sql.specs.Refused.{HasNoMeta, IsAnothers, IsNobodys}
+use Rattle.mr_rows.specs.Shelf.{HasShelves, IsShelf}
+use Rattle.mr_rows.specs.Shown.{AreOurRows}
+use Rattle.mr_rows.proofs.FoundLemmas.{all_held}
 use Rattle.mr_first.specs.FirstDatabase.{first_in}
-use Rattle.mr_rows.specs.Shown.{AreOurRows, IsMeta}
-use Rattle.mr_rows.proofs.FoundLemmas.{all_held, meta_is_found}
-use Rattle.mr_rows.specs.Shelf.{IsShelf}
+use Rattle.mr_sql.specs.declared.adopt.Whose.{Whose}
+use Rattle.mr_sql.specs.declared.adopt.Whose.TheVariants as whose
+use Rattle.mr_sql.specs.Found.{LeavesTables, IsTaken, IsResumed, Names, StaysAs}
+use Rattle.mr_sql.specs.Refused.{AreSomebodys, HasNoMeta, IsNobodys}
+use Rattle.mr_sql.specs.Opening.{AreStrangeTo, AreTakenAs, MayFailFor, Suits}
 
 pub zip_row : {A B : Type 0} (R : A → B → Type 0) (xs : List A) (ys : List B) (y : B) → AllZip R xs ys → Has ys y → (x : A) × Has xs x × R x y
 zip_row R [] [] y all h = absurd h
@@ -71,80 +71,22 @@ pub has_shelves : (shapes : ℕ → Shape) (reals : ℕ → ℕ) (trees : Trees)
 has_shelves shapes reals trees db ordered listed same sound table here =
     subst (λ (all : Trees). IsShelf (all table.tree)) (sym same) (rises shapes reals trees db.schema table ordered listed (subst (IsSound db.schema) same sound) here)
 
--- ---- what is told by an answer
-
-pub told_of : {X E : Type 0} (r : Result X E) (P Q : X → Type 0) → ((x : X) → P x → Q x) → IfOk r P → IfOk r Q
-told_of (Ok x) P Q way h = way x h
-told_of (Err e) P Q way h = tt
-
-pub told_of_two : {X E : Type 0} (r : Result X E) (P Q R : X → Type 0) → ((x : X) → P x → Q x → R x) → IfOk r P → IfOk r Q → IfOk r R
-told_of_two (Ok x) P Q R way h k = way x h k
-told_of_two (Err e) P Q R way h k = tt
-
-pub told_of_three : {X E : Type 0} (r : Result X E) (P Q R S : X → Type 0) → ((x : X) → P x → Q x → R x → S x) → IfOk r P → IfOk r Q → IfOk r R → IfOk r S
-told_of_three (Ok x) P Q R S way h k l = way x h k l
-told_of_three (Err e) P Q R S way h k l = tt
-
--- of an answer alone, whatever it is
-pub ok_of : {X E P Q : Type 0} (r : Result X E) → (P → Q) → OnOk r P → OnOk r Q
-ok_of (Ok x) way h = way h
-ok_of (Err e) way h = tt
-
--- ---- what is told by a refusal
-
-pub failed_of : {X E : Type 0} (r : Result X E) (P Q : E → Type 0) → ((e : E) → P e → Q e) → IfErr r P → IfErr r Q
-failed_of (Ok x) P Q way h = tt
-failed_of (Err e) P Q way h = way e h
-
--- of each refusal
-pub err_all : {X E : Type 0} (r : Result X E) (P : E → Type 0) → ((e : E) → P e) → IfErr r P
-err_all (Ok x) P all = tt
-err_all (Err e) P all = all e
+-- ---- from a database that was taken over to a keeper's
 
 -- want of memory and a failure of the store are no other refusal
 pub not_strange : {e : Refusal} → (e ≡ refusal.OutOfMemory) ⊎ (e ≡ refusal.Store) → e ≡ refusal.NotAReplica → ⊥
 not_strange (inl memory) is = let both = sym memory ∙ is in absurd (cc)
 not_strange (inr store) is = let both = sym store ∙ is in absurd (cc)
 
--- ---- from a database that was taken over to a keeper's
-
-pub settles : (trees : Trees) (old new : State) → IsTaken trees old → old.now.schema ≡ our_schema → (new.now ≡ old.now) × (new.committed ≡ old.committed) → AreOurRows old.now.trees → IsKept new
-settles trees old new taken ours same rows =
+pub settles : (old new : State) → IsTaken old → old.now.schema ≡ our_schema → (new.now ≡ old.now) × (new.committed ≡ old.committed) → AreOurRows old.now.trees → IsKept new
+settles old new taken ours same rows =
     let held = all_held old.now ours taken.sound taken.shelves rows in
     let kept : IsOurs old.now = record { schema = ours; held = held } in
     record { ours = subst IsOurs (sym same.0) kept; settled = same.0 ∙ taken.settled ∙ sym same.1 }
 
-pub finds : (trees : Trees) (m : MetaRow) (old new : State) → IsTaken trees old → old.now.schema ≡ our_schema → (new.now ≡ old.now) × (new.committed ≡ old.committed) → AreOurRows old.now.trees → IsMeta old.now.trees (Some m)
-    → IsFound trees m new
-finds trees m old new taken ours same rows meta = record {
-  kept = settles trees old new taken ours same rows;
-  resumed = inl (subst₂ (λ schema db. IsSound schema db) ours taken.trees_are taken.sound, ap (λ (db : Database). db.trees) same.0 ∙ taken.trees_are);
-  meta = ap (λ (db : Database). (tables_in db.trees).meta) same.0 ∙ meta_is_found old.now.trees m meta;
-}
-
-pub begins : (server primary : ℕ) (trees : Trees) (old new : State) → IsTaken trees old → old.now.schema ≡ no_schema → IsKept new → Stands (tables_in new.now.trees) (opening server primary) → IsKept new × IsAdopted server primary trees new.now.trees
-begins server primary trees old new taken none kept stands = (kept, inl (subst₂ (λ schema db. IsSound schema db) none taken.trees_are taken.sound, stands))
-
--- a keeper's tables of this server and primary are adopted
-pub adopts : (server primary : ℕ) (trees : Trees) (m : MetaRow) (s : State) → IsFound trees m s → Names server primary m → IsKept s × IsAdopted server primary trees s.now.trees
-adopts server primary trees m s found named = (found.kept, inr (found.resumed, subst (Names server primary) (sym found.meta) named))
-
--- what was taken over and stayed is still taken over
-pub still_taken : (under : Schema) (trees : Trees) (old new : State) → IsTakenAs under trees old → IsTrue new.is_open → (new.now ≡ old.now) × (new.committed ≡ old.committed) → IsTakenAs under trees new
-still_taken under trees old new taken now same = (
-  record {
-    is_open = now;
-    trees_are = ap (λ (db : Database). db.trees) same.0 ∙ taken.0.trees_are;
-    settled = same.0 ∙ taken.0.settled ∙ sym same.1;
-    sound = subst IsDatabase (sym same.0) taken.0.sound;
-    shelves = subst HasShelves (sym same.0) taken.0.shelves;
-  },
-  ap (λ (db : Database). db.schema) same.0 ∙ taken.1,
-)
-
 -- what was taken over and stayed has its rows
-pub stays : (trees : Trees) (old new : State) → IsTaken trees old → (new.now ≡ old.now) × (new.committed ≡ old.committed) → StaysAs trees new
-stays trees old new taken same = (ap (λ (db : Database). db.trees) same.0 ∙ taken.trees_are, same.0 ∙ taken.settled ∙ sym same.1)
+pub stays : (old new : State) → IsTaken old → (new.now ≡ old.now) × (new.committed ≡ old.committed) → StaysAs old.now.trees new
+stays old new taken same = (ap (λ (db : Database). db.trees) same.0, same.0 ∙ taken.settled ∙ sym same.1)
 
 -- what a crash may leave of a keeper's database is its tables alone
 pub alone : (s : State) → IsKept s → ((db : Trees) → s.may_leave db → db ≡ s.committed.trees) → LeavesTables s
@@ -152,72 +94,49 @@ alone s kept law t left = left.2 ∙ ap tables_in (law left.0 left.1 ∙ ap (λ 
 
 -- ---- which schema trees list
 
-pub of_schema : (trees : Trees) (s : State) (schema : Schema) → IsTaken trees s → IsSound schema trees → s.now.schema ≡ schema
-of_schema trees s schema taken sound =
-    lists_once (trees catalog_tree) s.now.schema schema (subst (λ (t : Trees). Lists (t catalog_tree) s.now.schema) taken.trees_are taken.sound.lists) sound.lists
+-- trees that were taken over are sound under the schema of the database, and under no other
+pub sound_as : (s : State) (schema : Schema) → IsTaken s → s.now.schema ≡ schema → IsSound schema s.now.trees
+sound_as s schema taken is = subst (λ x. IsSound x s.now.trees) is taken.sound
+
+pub of_schema : (s : State) (schema : Schema) → IsTaken s → IsSound schema s.now.trees → s.now.schema ≡ schema
+of_schema s schema taken sound = lists_once (s.now.trees catalog_tree) s.now.schema schema taken.sound.lists sound.lists
 
 -- trees list no schema with another number of tables
-pub not_other : (trees : Trees) (s : State) (schema other : Schema) → IsTaken trees s → s.now.schema ≡ schema → length schema.tables ≢ length other.tables → IsSound other trees → ⊥
-not_other trees s schema other taken is apart sound = apart (ap (λ (x : Schema). length x.tables) (sym is ∙ of_schema trees s other taken sound))
+not_other : (s : State) (schema other : Schema) → IsTaken s → s.now.schema ≡ schema → length schema.tables ≢ length other.tables → IsSound other s.now.trees → ⊥
+not_other s schema other taken is apart sound = apart (ap (λ (x : Schema). length x.tables) (sym is ∙ of_schema s other taken sound))
 
--- our tables are some
-pub not_blank : (trees : Trees) (s : State) → IsTaken trees s → s.now.schema ≡ our_schema → IsSound no_schema trees → ⊥
-not_blank trees s taken ours = not_other trees s our_schema no_schema taken ours (λ same. omega (arith, same))
+-- ---- whose they are
 
--- and more than those of the first schema, which are some, too
-pub not_first : (trees : Trees) (s : State) → IsTaken trees s → s.now.schema ≡ our_schema → IsSound first_schema trees → ⊥
-not_first trees s taken ours = not_other trees s our_schema first_schema taken ours (λ same. omega (arith, same))
-
-pub first_not_blank : (trees : Trees) (s : State) → IsTaken trees s → s.now.schema ≡ first_schema → IsSound no_schema trees → ⊥
-first_not_blank trees s taken first = not_other trees s first_schema no_schema taken first (λ same. omega (arith, same))
-
-pub first_not_ours : (trees : Trees) (s : State) → IsTaken trees s → s.now.schema ≡ first_schema → IsSound our_schema trees → ⊥
-first_not_ours trees s taken first = not_other trees s first_schema our_schema taken first (λ same. omega (arith, same))
-
--- a refusal that is handed on
-pub handed_on : {X E : Type 0} (P : E → Type 0) (e : E) (r : Result X E) → P e → IsErrAnd r (λ f. f ≡ e) → IfErr r P
-handed_on P e (Ok x) is handed = tt
-handed_on P e (Err f) is handed = subst P (sym handed) is
-
--- ---- what is told of databases with the tables of one schema or the other
-
--- trees that were taken over are sound under the schema of the database
-pub sound_as : (trees : Trees) (s : State) (schema : Schema) → IsTaken trees s → s.now.schema ≡ schema → IsSound schema trees
-sound_as trees s schema taken is = subst₂ (λ x db. IsSound x db) is taken.trees_are taken.sound
-
--- tables of ours are another's where `meta` has no row of theirs, or names others
-pub anothers_ours : (server primary : ℕ) (trees : Trees) (s : State) → IsTaken trees s → s.now.schema ≡ our_schema → HasNoMeta 2 trees ⊎ (Names server primary (tables_in trees).meta → ⊥) → IsAnothers server primary trees
-anothers_ours server primary trees s taken ours is = (not_blank trees s taken ours, (λ _. is), (λ first. absurd (not_first trees s taken ours first)))
+-- our tables are those of others where `meta` has no row of theirs, or it isn't of those who are wanted
+pub strange_ours : (w : Whose) (s : State) → IsTaken s → s.now.schema ≡ our_schema → HasNoMeta 2 s.now.trees ⊎ (Suits w (tables_in s.now.trees).meta → ⊥) → AreStrangeTo w s.now.trees
+strange_ours (whose.Of server primary) s taken ours is =
+    (not_other s our_schema no_schema taken ours (λ same. omega (arith, same)), (λ _. is), (λ first. absurd (not_other s our_schema first_schema taken ours (λ same. omega (arith, same)) first)))
+strange_ours whose.Anyones s taken ours (inl none) = ((λ _. none), (λ first. absurd (not_other s our_schema first_schema taken ours (λ same. omega (arith, same)) first)))
+strange_ours whose.Anyones s taken ours (inr other) = absurd (other tt)
 
 -- and so are those of the first schema
-pub anothers_first : (server primary : ℕ) (trees : Trees) (s : State) → IsTaken trees s → s.now.schema ≡ first_schema → HasNoMeta 1 trees ⊎ (Names server primary (first_in trees).meta → ⊥) → IsAnothers server primary trees
-anothers_first server primary trees s taken first is = (first_not_blank trees s taken first, (λ ours. absurd (first_not_ours trees s taken first ours)), (λ _. is))
+pub strange_first : (w : Whose) (s : State) → IsTaken s → s.now.schema ≡ first_schema → HasNoMeta 1 s.now.trees ⊎ (Suits w (first_in s.now.trees).meta → ⊥) → AreStrangeTo w s.now.trees
+strange_first (whose.Of server primary) s taken first is =
+    (not_other s first_schema no_schema taken first (λ same. omega (arith, same)), (λ ours. absurd (not_other s first_schema our_schema taken first (λ same. omega (arith, same)) ours)), (λ _. is))
+strange_first whose.Anyones s taken first (inl none) = ((λ ours. absurd (not_other s first_schema our_schema taken first (λ same. omega (arith, same)) ours)), (λ _. none))
+strange_first whose.Anyones s taken first (inr other) = absurd (other tt)
 
--- they are nobody's where `meta` has no row of theirs
-pub nobodys_ours : (trees : Trees) (s : State) → IsTaken trees s → s.now.schema ≡ our_schema → HasNoMeta 2 trees → IsNobodys trees
-nobodys_ours trees s taken ours is = ((λ _. is), (λ first. absurd (not_first trees s taken ours first)))
+-- tables of neither schema are those of others, where there are some
+pub strange_others : (w : Whose) (s : State) → IsTaken s → (s.now.schema ≡ no_schema → ⊥) → (s.now.schema ≡ our_schema → ⊥) → (s.now.schema ≡ first_schema → ⊥) → AreStrangeTo w s.now.trees
+strange_others (whose.Of server primary) s taken none ours first =
+    ((λ sound. none (of_schema s no_schema taken sound)), (λ sound. absurd (ours (of_schema s our_schema taken sound))), (λ sound. absurd (first (of_schema s first_schema taken sound))))
+strange_others whose.Anyones s taken none ours first = ((λ sound. absurd (ours (of_schema s our_schema taken sound))), (λ sound. absurd (first (of_schema s first_schema taken sound))))
 
--- and so are those of the first schema
-pub nobodys_first : (trees : Trees) (s : State) → IsTaken trees s → s.now.schema ≡ first_schema → HasNoMeta 1 trees → IsNobodys trees
-nobodys_first trees s taken first is = ((λ ours. absurd (first_not_ours trees s taken first ours)), (λ _. is))
+-- no tables are no replica's
+pub strange_none : (s : State) → IsTaken s → s.now.schema ≡ no_schema → IsNobodys s.now.trees
+strange_none s taken none =
+    ((λ ours. absurd (not_other s no_schema our_schema taken none (λ same. omega (arith, same)) ours)), (λ first. absurd (not_other s no_schema first_schema taken none (λ same. omega (arith, same)) first)))
 
--- where the row of `meta` that was found names others, so does that of the trees
-pub named_as : (server primary : ℕ) (trees : Trees) (m : MetaRow) (old new : State) → IsTaken trees old → old.now.schema ≡ our_schema → IsFound trees m new → (Names server primary m → ⊥) → Names server primary (tables_in trees).meta → ⊥
-named_as server primary trees m old new taken ours found other named = other (subst (Names server primary) (told found.resumed) named)
-  where
-    told : IsResumed trees new.now.trees → (tables_in trees).meta ≡ m
-    told (inl kept) = ap (λ (t : Trees). (tables_in t).meta) (sym kept.1) ∙ found.meta
-    told (inr first) = absurd (not_first trees old taken ours first.0)
+pub somebodys : (w : Whose) (trees : Trees) → AreSomebodys trees → MayFailFor w trees
+somebodys (whose.Of server primary) trees are = inr are
+somebodys whose.Anyones trees are = are
 
--- tables of ours that were found are there
-pub found_stays : (trees : Trees) (m : MetaRow) (old new : State) → IsTaken trees old → old.now.schema ≡ our_schema → IsFound trees m new → StaysAs trees new
-found_stays trees m old new taken ours found = (there found.resumed, found.kept.settled)
-  where
-    there : IsResumed trees new.now.trees → new.now.trees ≡ trees
-    there (inl kept) = kept.1
-    there (inr first) = absurd (not_first trees old taken ours first.0)
-
--- ---- once more, by the trees that are committed
-
-pub committed_are : (trees : Trees) (s : State) → IsTaken trees s → s.committed.trees ≡ trees
-committed_are trees s taken = ap (λ (db : Database). db.trees) (sym taken.settled) ∙ taken.trees_are
+-- tables of those who are wanted are taken
+pub taken_as : (w : Whose) (before after : Trees) (m : MetaRow) → IsResumed before after → (tables_in after).meta ≡ m → Suits w m → AreTakenAs w before after
+taken_as (whose.Of server primary) before after m resumed is suits = inr (resumed, subst (Names server primary) (sym is) suits)
+taken_as whose.Anyones before after m resumed is suits = resumed

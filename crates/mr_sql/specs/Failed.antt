@@ -6,10 +6,8 @@ use Rattle.sqlite_catalog.specs.Listing.{IsSound}
 use Rattle.sqlite.specs.State.{State}
 use Rattle.mr_model.specs.Replica.{Replica}
 use Rattle.mr_model.specs.Tables.{Stands}
-use Rattle.mr_model.specs.First.{StandsFirst}
-use Rattle.mr_rows.specs.Schema.{first_schema, our_schema}
+use Rattle.mr_rows.specs.Schema.{our_schema}
 use Rattle.mr_rows.specs.Database.{AreHeld, tables_in}
-use Rattle.mr_first.specs.FirstDatabase.{AreHeldFirst, first_in}
 
 -- the disk failed since then, or the connection had been shut, or its queries have a limit of steps
 abbrev pub StoreFailed : State → State → Type 0
@@ -18,7 +16,3 @@ StoreFailed old new = MoreFaults old.faults new.faults ⊎ ((old.is_open ≡ fal
 -- these trees hold the tables of a replica, as a keeper writes them
 abbrev pub HoldReplica : Trees → Type 0
 HoldReplica trees = IsSound our_schema trees × AreHeld trees × ((a : Replica) × Stands (tables_in trees) a)
-
--- and these the tables of one of the first schema
-abbrev pub HoldFirst : Trees → Type 0
-HoldFirst trees = IsSound first_schema trees × AreHeldFirst trees × ((a : Replica) × StandsFirst (first_in trees) a)

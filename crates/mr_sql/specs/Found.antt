@@ -1,7 +1,6 @@
 -- What is found in a database that its keeper didn't make.
 use Rattle.std.specs.Prelude.{◌≡◌, ℕ, ◌⊎◌, Option, Some, None, IsTrue}
 use Rattle.sqlite_trees.specs.Tree.{Trees}
-use Rattle.sqlite_schema.specs.declared.schema.Schema.{Schema}
 use Rattle.sqlite_catalog.specs.Listing.{IsSound}
 use Rattle.sqlite.specs.Effect.{IsDatabase}
 use Rattle.sqlite.specs.State.{State}
@@ -11,20 +10,16 @@ use Rattle.mr_model.specs.First.{StandsFirst, moved}
 use Rattle.mr_store.specs.KeeperCalls.{IsSettled}
 use Rattle.mr_rows.specs.Schema.{no_schema, first_schema, our_schema}
 use Rattle.mr_rows.specs.Shelf.{HasShelves}
-use Rattle.mr_rows.specs.Database.{IsKept, tables_in}
-use Rattle.mr_first.specs.FirstDatabase.{IsKeptFirst, first_in}
+use Rattle.mr_rows.specs.Database.{tables_in}
+use Rattle.mr_first.specs.FirstDatabase.{first_in}
 
--- a database with these trees, opened anew
-pub record IsTaken (trees : Trees) (s : State) : Type 0 where
+-- a database that was opened anew: nothing is uncommitted, each table is in order, and a query may take any number of steps
+pub record IsTaken (s : State) : Type 0 where
   pub is_open : IsTrue s.is_open
-  pub trees_are : s.now.trees ≡ trees
   pub settled : s.now ≡ s.committed
   pub sound : IsDatabase s.now
   pub shelves : HasShelves s.now
-
--- and with this schema
-abbrev pub IsTakenAs : Schema → Trees → State → Type 0
-IsTakenAs under trees s = IsTaken trees s × (s.now.schema ≡ under)
+  pub unlimited : s.step_limit ≡ None
 
 -- the database has these trees, and nothing uncommitted
 abbrev pub StaysAs : Trees → State → Type 0
@@ -47,19 +42,6 @@ abbrev pub IsAdopted : ℕ → ℕ → Trees → Trees → Type 0
 IsAdopted server primary before after =
     (IsSound no_schema before × Stands (tables_in after) (opening server primary))
     ⊎ (IsResumed before after × Names server primary (tables_in after).meta)
-
--- these trees are now the tables of a keeper, with this row of `meta`
-pub record IsFound (trees : Trees) (m : MetaRow) (s : State) : Type 0 where
-  pub kept : IsKept s
-  pub resumed : IsResumed trees s.now.trees
-  pub meta : (tables_in s.now.trees).meta ≡ m
-
--- these trees are tables of the first schema, with this row of `meta`
-pub record IsFoundFirst (trees : Trees) (m : MetaRow) (s : State) : Type 0 where
-  pub kept : IsKeptFirst s
-  pub sound : IsSound first_schema trees
-  pub trees_are : s.now.trees ≡ trees
-  pub meta : (first_in trees).meta ≡ m
 
 -- a crash would leave the tables and nothing else
 abbrev pub LeavesTables : State → Type 0

@@ -1,5 +1,5 @@
--- A reader of the contracts trusts Found, Refused, Failed and FailedReads. The others, Numbers, PlaceOfId, Enough, Blank and OurSchema, serve private clauses
--- and proofs alone.
+-- A reader of the contracts trusts Found, Refused, Failed, Opened and FailedReads. The others, Numbers, PlaceOfId, Enough, Blank, OurSchema and Opening,
+-- serve private clauses and proofs alone.
 pub mod Numbers
 pub mod PlaceOfId
 pub mod Enough
@@ -8,4 +8,6 @@ pub mod OurSchema
 pub mod Found
 pub mod Refused
 pub mod Failed
+pub mod Opened
+pub mod Opening
 pub mod FailedReads

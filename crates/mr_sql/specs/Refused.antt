@@ -3,7 +3,6 @@ use Rattle.std.specs.Prelude.{◌≡◌, ◌≢◌, ℕ, pos, ◌⊎◌, [], ◌
 use Rattle.sqlite_value.specs.declared.value.Value.TheVariants.{Int}
 use Rattle.sqlite_value.specs.Order.{Row, column}
 use Rattle.sqlite_trees.specs.Tree.{Trees}
-use Rattle.sqlite_schema.specs.declared.schema.Schema.{Schema}
 use Rattle.sqlite_catalog.specs.Listing.{IsSound}
 use Rattle.sqlite.specs.Files.{HoldsDatabase, AreFoundIn}
 use Rattle.sqlite.specs.Recovery.{Image}
@@ -12,9 +11,6 @@ use Rattle.mr_rows.specs.Database.{tables_in}
 use Rattle.mr_rows.specs.Shown.{IsMeta}
 use Rattle.mr_first.specs.FirstDatabase.{first_in}
 use Rattle.mr_sql.specs.Found.{Names}
-
-abbrev pub IsOfTwo : Schema → Type 0
-IsOfTwo under = (under ≡ our_schema) ⊎ (under ≡ first_schema)
 
 -- the one row of `meta` has another number of the schema than this; the number stands behind the rowid and `one`
 abbrev pub HasOtherNumber : ℕ → Trees → Type 0

@@ -1,24 +1,26 @@
 //! Keepers in files.
 
-ghost use Rattle.std.specs.Prelude.{◌≡◌, ◌<◌, ◌⊎◌, true, Some, None, IfOk, IfErr, IsTrue};
+ghost use Rattle.std.specs.Prelude.{◌≡◌, ◌⊎◌, true, IfOk, IfErr, IfSome, IsSome, IsTrue};
 ghost use Rattle.sqlite_trees.specs.Tree.{Trees};
 ghost use Rattle.sqlite.specs.Recovery.{Image};
 ghost use Rattle.sqlite.specs.WalFiles.{image_at};
 ghost use Rattle.sqlite.specs.WalReads.{AreClean};
 ghost use Rattle.sqlite.specs.State.{HasCleanDisk};
 ghost use Rattle.sqlite.specs.Held.{state};
-ghost use Rattle.sqlite.specs.Files.{file_state, image_of, HoldsDatabase, IsClosed};
+ghost use Rattle.sqlite.specs.Files.{file_state, image_of, IsClosed};
 ghost use Rattle.sqlite.specs.Closing.{IsCopied};
 ghost use Rattle.mr_agree.specs.Agreeing.{agree};
 ghost use Rattle.mr_disk.specs.Copied.{image_copied};
 ghost use Rattle.mr_rows.specs.Database.{tables_in};
-ghost use Rattle.mr_sql.specs.Found.{IsAdopted, IsResumed, IsTaken, LeavesTables, StaysAs};
-ghost use Rattle.mr_sql.specs.Refused.{IsAnothers, IsFoundIn, IsNobodys};
-ghost use Rattle.mr_sql.specs.Failed.{StoreFailed, HoldReplica};
+ghost use Rattle.mr_sql.specs.Found.{IsAdopted, IsResumed, IsTaken};
+ghost use Rattle.mr_sql.specs.Refused.{IsFoundIn, IsNobodys};
+ghost use Rattle.mr_sql.specs.Opened.{AreFrom, ComesBackFrom, IsNewKeeper, IsOfOpening, RefusesToAdopt, RefusesToResume};
+ghost use Rattle.mr_sql.specs.Opening.{AreTakenAs, RefusesFor};
 
+use crate::adopt::Whose;
 use crate::faults::{refusal_in_memory, refusal_of};
 use crate::schemas::is_first;
-use crate::sql_keeper::{GivenBack, SqlKeeper};
+use crate::sql_keeper::SqlKeeper;
 use mr_base::{Refusal, ServerId};
 use mr_disk::{Copied, SparingFile};
 use mr_rows::Idle;
@@ -32,10 +34,7 @@ use std::io::ErrorKind;
 use std::rt::HostRuntime;
 
 /// A keeper whose tables lie in a file.
-pub type FileKeeper = KeeperFrom<Unknown>;
-
-/// A keeper whose tables lie in a file; the type stands for what that and its log held.
-pub type KeeperFrom<B> = SqlKeeper<FileStore<SparingFile<B>>>;
+pub type FileKeeper = SqlKeeper<FileStore<SparingFile<Unknown>>>;
 
 /// A keeper whose tables lie in a copy of a file, in memory.
 pub type CopyKeeper = SqlKeeper<FileStore<Memory>>;
@@ -47,9 +46,6 @@ pub enum NotCopied {
     /// The file has to be opened itself: its tables are of the first schema and are to be moved up, or SQLite may have it open.
     OnlyInFile,
 }
-
-/// Why a file isn't taken as a database, with what was opened.
-pub type NotTaken<B> = (Refusal, Option<GivenBack<FileStore<SparingFile<B>>>>);
 
 // The kit's own open takes these paths for memory and a URI.
 fn is_no_path(path: &str) -> bool {
@@ -108,9 +104,7 @@ fn connect<D: Disk + Drop>(
 ) -> Result<Idle<FileStore<D>>, Error>
     requires log { IsTrue (D.Disk.is_usable files.log) }
     requires db { IsTrue (D.Disk.is_usable files.db) }
-    ensures found { IfOk result (λ c. HasCleanDisk (file_state c) → IsFoundIn (image_of D.Disk files) (file_state c).committed.trees) }
-    ensures taken { IfOk result (λ c. HasCleanDisk (file_state c) → IsTaken (file_state c).committed.trees (file_state c)) }
-    ensures unlimited { IfOk result (λ c. (file_state c).step_limit ≡ None) }
+    ensures found { IfOk result (λ c. HasCleanDisk (file_state c) → IsTaken (file_state c) × IsFoundIn (image_of D.Disk files) (file_state c).now.trees) }
 {
     match Connection::open_files(alloc, files, options) {
         Ok(connection) => Ok(Idle { connection }),
@@ -124,9 +118,7 @@ fn open<B: Start>(
     path: &str,
     start: B,
 ) -> Result<Idle<FileStore<SparingFile<B>>>, Refusal>
-    ensures found { IfOk result (λ c. HasCleanDisk (file_state c) → IsFoundIn (image_at B.Start) (file_state c).committed.trees) }
-    ensures taken { IfOk result (λ c. HasCleanDisk (file_state c) → IsTaken (file_state c).committed.trees (file_state c)) }
-    ensures unlimited { IfOk result (λ c. (file_state c).step_limit ≡ None) }
+    ensures found { IfOk result (λ c. HasCleanDisk (file_state c) → IsTaken (file_state c) × IsFoundIn (image_at B.Start) (file_state c).now.trees) }
     ensures cause { IfErr result (λ e. (e ≡ Refusal.OutOfMemory) ⊎ (e ≡ Refusal.Store)) }
 {
     let files = open_pair(rt, path, start)?;
@@ -165,9 +157,7 @@ fn disks_of(alloc: Global, copied: Copied) -> Result<Files<Memory>, Refusal>
 
 // Opens the database of a copy.
 fn open_disks(rt: &HostRuntime, copied: Copied) -> Result<Idle<FileStore<Memory>>, Refusal>
-    ensures found { IfOk result (λ c. HasCleanDisk (file_state c) → IsFoundIn (image_copied copied) (file_state c).committed.trees) }
-    ensures taken { IfOk result (λ c. HasCleanDisk (file_state c) → IsTaken (file_state c).committed.trees (file_state c)) }
-    ensures unlimited { IfOk result (λ c. (file_state c).step_limit ≡ None) }
+    ensures found { IfOk result (λ c. HasCleanDisk (file_state c) → IsTaken (file_state c) × IsFoundIn (image_copied copied) (file_state c).now.trees) }
     ensures cause { IfErr result (λ e. (e ≡ Refusal.OutOfMemory) ⊎ (e ≡ Refusal.Store)) }
 {
     let files = disks_of(rt.alloc(), copied)?;
@@ -185,23 +175,17 @@ fn take_copy<S: Alter + Drop>(
     conn: Idle<S>,
     keep: bool,
 ) -> Result<SqlKeeper<S>, (NotCopied, Idle<S>)>
-    requires taken { HasCleanDisk (state S.Store conn) → IsTaken (state S.Store conn).committed.trees (state S.Store conn) }
-    ensures opens { IfOk result (λ k. HasCleanDisk (state S.Store k.0) → IsTrue (state S.Store k.0).is_open) }
-    ensures resumed { IfOk result (λ k. HasCleanDisk (state S.Store k.0) → IsTrue (state S.Store k.0).is_open
-        → IsResumed (state S.Store conn).committed.trees (state S.Store k.0).now.trees) }
-    ensures settled { IfOk result (λ k. HasCleanDisk (state S.Store k.0) → IsTrue (state S.Store k.0).is_open → LeavesTables (state S.Store k.0)) }
-    ensures uncounted { IfOk result (λ k. k.1 ≡ 0) }
+    requires taken { HasCleanDisk (state S.Store conn) → IsTaken (state S.Store conn) }
+    ensures opened { IfOk result (λ k. IsNewKeeper (IsResumed (state S.Store conn).now.trees) (state S.Store k.0) k.1) }
     ensures clean { IfOk result (λ k. HasCleanDisk (state S.Store k.0) → HasCleanDisk (state S.Store conn)) }
-    ensures was_clean { IfErr result (λ e. HasCleanDisk (state S.Store e.1) → HasCleanDisk (state S.Store conn)) }
-    ensures cause { IfErr result (λ e. (r : _) → e.0 ≡ NotCopied.Refused r → (r ≡ Refusal.OutOfMemory) ⊎ ((r ≡ Refusal.Store) ⊎ (r ≡ Refusal.NotAReplica))) }
-    ensures strange { IfErr result (λ e. HasCleanDisk (state S.Store e.1) → e.0 ≡ NotCopied.Refused Refusal.NotAReplica → IsNobodys (state S.Store conn).committed.trees) }
-    ensures failed { IfErr result (λ e. HasCleanDisk (state S.Store e.1) → HoldReplica (state S.Store conn).committed.trees → e.0 ≡ NotCopied.Refused Refusal.Store
-        → StoreFailed (state S.Store conn) (state S.Store e.1)) }
+    ensures refused { IfErr result (λ e. (r : _) → e.0 ≡ NotCopied.Refused r → HasCleanDisk (state S.Store e.1)
+        → HasCleanDisk (state S.Store conn) × RefusesToResume (state S.Store conn).now.trees r (state S.Store e.1)) }
+    ensures cause { IfErr result (λ e. (r : _) → e.0 ≡ NotCopied.Refused r → IsOfOpening r) }
 {
     if is_first(&conn) {
         return Err((NotCopied::OnlyInFile, conn));
     }
-    match SqlKeeper::recovered(alloc, conn, keep) {
+    match SqlKeeper::over(alloc, conn, Whose::Anyones, keep) {
         Ok(keeper) => Ok(keeper),
         Err((refusal, conn)) => Err((NotCopied::Refused(refusal), conn)),
     }
@@ -225,63 +209,53 @@ impl<B: Start> SqlKeeper<FileStore<SparingFile<B>>> {
         start: B,
         server: ServerId,
         primary: ServerId,
-    ) -> Result<KeeperFrom<B>, NotTaken<B>>
-        ensures opened { IfOk result (λ k. HasCleanDisk (file_state k.0) → IsTrue (file_state k.0).is_open
-            → (before : Trees) × IsFoundIn (image_at B.Start) before × IsAdopted server primary before (file_state k.0).now.trees) }
-        ensures opens { IfOk result (λ k. HasCleanDisk (file_state k.0) → IsTrue (file_state k.0).is_open) }
-        ensures settled { IfOk result (λ k. HasCleanDisk (file_state k.0) → IsTrue (file_state k.0).is_open → LeavesTables (file_state k.0)) }
-        ensures uncounted { IfOk result (λ k. k.1 ≡ 0) }
-        ensures cause { IfErr result (λ e. (e.0 ≡ Refusal.OutOfMemory) ⊎ ((e.0 ≡ Refusal.Store) ⊎ (e.0 ≡ Refusal.NotAReplica))) }
-        ensures strange { IfErr result (λ e. e.0 ≡ Refusal.NotAReplica → (c : _) × (e.1 ≡ Some (GivenBack.Connection c))
-            × (HasCleanDisk (file_state c) → (before : Trees) × IsFoundIn (image_at B.Start) before × IsAnothers server primary before)) }
-        ensures failed { IfErr result (λ e. (c : _) → e.1 ≡ Some (GivenBack.Connection c) → HasCleanDisk (file_state c)
-            → (db : Trees) → HoldsDatabase (image_at B.Start) db → HoldReplica db → e.0 ≡ Refusal.Store → 0 < (file_state c).faults) }
-        ensures stays { IfErr result (λ e. (c : _) → e.1 ≡ Some (GivenBack.Connection c) → HasCleanDisk (file_state c) → IsTrue (file_state c).is_open
-            → (before : Trees) × IsFoundIn (image_at B.Start) before × StaysAs before (file_state c)) }
-        ensures crash { IfErr result (λ e. (c : _) → e.1 ≡ Some (GivenBack.Connection c) → HasCleanDisk (file_state c)
-            → (before : Trees) × IsFoundIn (image_at B.Start) before
-            × ((trees : Trees) → (file_state c).may_leave trees → (trees ≡ before) ⊎ IsAdopted server primary before trees)) }
+    ) -> Result<Self, (Refusal, Option<Connection<FileStore<SparingFile<B>>>>)>
+        ensures opened { IfOk result (λ k. IsNewKeeper (AreFrom (image_at B.Start) (IsAdopted server primary)) (file_state k.0) k.1) }
+        ensures refused { IfErr result
+            (λ e. IfSome e.1 (λ c. ComesBackFrom (image_at B.Start) (RefusesToAdopt server primary) e.0 (file_state c))) }
+        ensures given { IfErr result (λ e. e.0 ≡ Refusal.NotAReplica → IsSome e.1) }
+        ensures cause { IfErr result (λ e. IsOfOpening e.0) }
     {
-        let conn = match open(rt, path, start) {
-            Ok(conn) => conn,
-            Err(refusal) => return Err((refusal, None)),
-        };
-        match SqlKeeper::adopted(rt.alloc(), conn, server, primary, true) {
-            Ok(keeper) => Ok(keeper),
-            Err((refusal, conn)) => Err((refusal, Some(GivenBack::Connection(conn.connection)))),
-        }
+        SqlKeeper::take_from(rt, path, start, Whose::Of(server, primary))
     }
 
     /// Opens the file as the database of a replica, whichever it is. Tables of the first schema are moved up before it answers. A
     /// file that can't be opened as a database is refused with 25. If there is no file, or its database isn't that of a
     /// replica, it is refused with 26. It makes no file.
-    pub fn open_from(rt: &HostRuntime, path: &str, start: B) -> Result<KeeperFrom<B>, NotTaken<B>>
-        ensures opened { IfOk result (λ k. HasCleanDisk (file_state k.0) → IsTrue (file_state k.0).is_open
-            → (before : Trees) × IsFoundIn (image_at B.Start) before × IsResumed before (file_state k.0).now.trees) }
-        ensures opens { IfOk result (λ k. HasCleanDisk (file_state k.0) → IsTrue (file_state k.0).is_open) }
-        ensures settled { IfOk result (λ k. HasCleanDisk (file_state k.0) → IsTrue (file_state k.0).is_open → LeavesTables (file_state k.0)) }
-        ensures uncounted { IfOk result (λ k. k.1 ≡ 0) }
-        ensures cause { IfErr result (λ e. (e.0 ≡ Refusal.OutOfMemory) ⊎ ((e.0 ≡ Refusal.Store) ⊎ (e.0 ≡ Refusal.NotAReplica))) }
-        ensures strange { IfErr result (λ e. e.0 ≡ Refusal.NotAReplica → (e.1 ≡ None) ⊎ ((c : _) × (e.1 ≡ Some (GivenBack.Connection c))
-            × (HasCleanDisk (file_state c) → (before : Trees) × IsFoundIn (image_at B.Start) before × IsNobodys before))) }
-        ensures failed { IfErr result (λ e. (c : _) → e.1 ≡ Some (GivenBack.Connection c) → HasCleanDisk (file_state c)
-            → (db : Trees) → HoldsDatabase (image_at B.Start) db → HoldReplica db → e.0 ≡ Refusal.Store → 0 < (file_state c).faults) }
-        ensures stays { IfErr result (λ e. (c : _) → e.1 ≡ Some (GivenBack.Connection c) → HasCleanDisk (file_state c) → IsTrue (file_state c).is_open
-            → (before : Trees) × IsFoundIn (image_at B.Start) before × StaysAs before (file_state c)) }
-        ensures crash { IfErr result (λ e. (c : _) → e.1 ≡ Some (GivenBack.Connection c) → HasCleanDisk (file_state c)
-            → (before : Trees) × IsFoundIn (image_at B.Start) before
-            × ((trees : Trees) → (file_state c).may_leave trees → (trees ≡ before) ⊎ IsResumed before trees)) }
+    pub fn open_from(
+        rt: &HostRuntime,
+        path: &str,
+        start: B,
+    ) -> Result<Self, (Refusal, Option<Connection<FileStore<SparingFile<B>>>>)>
+        ensures opened { IfOk result (λ k. IsNewKeeper (AreFrom (image_at B.Start) IsResumed) (file_state k.0) k.1) }
+        ensures refused { IfErr result (λ e. IfSome e.1 (λ c. ComesBackFrom (image_at B.Start) RefusesToResume e.0 (file_state c))) }
+        ensures cause { IfErr result (λ e. IsOfOpening e.0) }
     {
         if is_missing(rt, path) {
             return Err((Refusal::NotAReplica, None));
         }
+        SqlKeeper::take_from(rt, path, start, Whose::Anyones)
+    }
+
+    // Opens the file as the database of those who are wanted.
+    fn take_from(
+        rt: &HostRuntime,
+        path: &str,
+        start: B,
+        whose: Whose,
+    ) -> Result<Self, (Refusal, Option<Connection<FileStore<SparingFile<B>>>>)>
+        ensures opened { IfOk result (λ k. IsNewKeeper (AreFrom (image_at B.Start) (AreTakenAs whose)) (file_state k.0) k.1) }
+        ensures refused { IfErr result (λ e. IfSome e.1 (λ c. ComesBackFrom (image_at B.Start) (RefusesFor whose) e.0 (file_state c))) }
+        ensures given { IfErr result (λ e. e.0 ≡ Refusal.NotAReplica → IsSome e.1) }
+        ensures cause { IfErr result (λ e. IsOfOpening e.0) }
+    {
         let conn = match open(rt, path, start) {
             Ok(conn) => conn,
             Err(refusal) => return Err((refusal, None)),
         };
-        match SqlKeeper::recovered(rt.alloc(), conn, true) {
+        match SqlKeeper::over(rt.alloc(), conn, whose, true) {
             Ok(keeper) => Ok(keeper),
-            Err((refusal, conn)) => Err((refusal, Some(GivenBack::Connection(conn.connection)))),
+            Err((refusal, conn)) => Err((refusal, Some(conn.connection))),
         }
     }
 }
@@ -295,12 +269,8 @@ impl SqlKeeper<FileStore<Memory>> {
         copied: Copied,
         keep: bool,
     ) -> Result<CopyKeeper, NotCopied>
-        ensures opened { IfOk result (λ k. HasCleanDisk (file_state k.0) → IsTrue (file_state k.0).is_open
-            → (before : Trees) × IsFoundIn (image_copied copied) before × IsResumed before (file_state k.0).now.trees) }
-        ensures opens { IfOk result (λ k. HasCleanDisk (file_state k.0) → IsTrue (file_state k.0).is_open) }
-        ensures settled { IfOk result (λ k. HasCleanDisk (file_state k.0) → IsTrue (file_state k.0).is_open → LeavesTables (file_state k.0)) }
-        ensures uncounted { IfOk result (λ k. k.1 ≡ 0) }
-        ensures cause { IfErr result (λ e. (r : _) → e ≡ NotCopied.Refused r → (r ≡ Refusal.OutOfMemory) ⊎ ((r ≡ Refusal.Store) ⊎ (r ≡ Refusal.NotAReplica))) }
+        ensures opened { IfOk result (λ k. IsNewKeeper (AreFrom (image_copied copied) IsResumed) (file_state k.0) k.1) }
+        ensures cause { IfErr result (λ e. (r : _) → e ≡ NotCopied.Refused r → IsOfOpening r) }
         ensures strange { IfErr result (λ e. e ≡ NotCopied.Refused Refusal.NotAReplica
             → (before : Trees) × IsFoundIn (image_copied copied) before × IsNobodys before) }
     {
@@ -317,12 +287,8 @@ impl SqlKeeper<FileStore<Memory>> {
     /// As `open_copied`, of what the files at the path hold as they are read, which is all that is done with them. If there is no file,
     /// it is refused with 26.
     pub fn open_copy(rt: &HostRuntime, path: &str, keep: bool) -> Result<CopyKeeper, NotCopied>
-        ensures opened { IfOk result (λ k. HasCleanDisk (file_state k.0) → IsTrue (file_state k.0).is_open
-            → (image : Image) × (before : Trees) × IsFoundIn image before × IsResumed before (file_state k.0).now.trees) }
-        ensures opens { IfOk result (λ k. HasCleanDisk (file_state k.0) → IsTrue (file_state k.0).is_open) }
-        ensures settled { IfOk result (λ k. HasCleanDisk (file_state k.0) → IsTrue (file_state k.0).is_open → LeavesTables (file_state k.0)) }
-        ensures uncounted { IfOk result (λ k. k.1 ≡ 0) }
-        ensures cause { IfErr result (λ e. (r : _) → e ≡ NotCopied.Refused r → (r ≡ Refusal.OutOfMemory) ⊎ ((r ≡ Refusal.Store) ⊎ (r ≡ Refusal.NotAReplica))) }
+        ensures opened { IfOk result (λ k. IsNewKeeper (λ after. (image : Image) × AreFrom image IsResumed after) (file_state k.0) k.1) }
+        ensures cause { IfErr result (λ e. (r : _) → e ≡ NotCopied.Refused r → IsOfOpening r) }
     {
         if is_missing(rt, path) {
             return Err(NotCopied::Refused(Refusal::NotAReplica));
@@ -354,14 +320,10 @@ impl SqlKeeper<FileStore<SparingFile<Unknown>>> {
         server: ServerId,
         primary: ServerId,
     ) -> Result<FileKeeper, Refusal>
-        ensures opened { IfOk result (λ k. HasCleanDisk (file_state k.0) → IsTrue (file_state k.0).is_open
-            → (before : Trees) × IsFoundIn (image_at ⟦<Unknown as Start>⟧) before × IsAdopted server primary before (file_state k.0).now.trees) }
-        ensures opens { IfOk result (λ k. HasCleanDisk (file_state k.0) → IsTrue (file_state k.0).is_open) }
-        ensures settled { IfOk result (λ k. HasCleanDisk (file_state k.0) → IsTrue (file_state k.0).is_open → LeavesTables (file_state k.0)) }
+        ensures opened { IfOk result (λ k. IsNewKeeper (AreFrom (image_at ⟦<Unknown as Start>⟧) (IsAdopted server primary)) (file_state k.0) k.1) }
         ensures agree { IfOk result (λ k. HasCleanDisk (file_state k.0) → IsTrue (file_state k.0).is_open
             → agree (tables_in (file_state k.0).now.trees) ≡ true) }
-        ensures uncounted { IfOk result (λ k. k.1 ≡ 0) }
-        ensures cause { IfErr result (λ e. (e ≡ Refusal.OutOfMemory) ⊎ ((e ≡ Refusal.Store) ⊎ (e ≡ Refusal.NotAReplica))) }
+        ensures cause { IfErr result IsOfOpening }
     {
         match SqlKeeper::init_from(rt, path, Unknown, server, primary) {
             Ok(keeper) => keeper.agreeing(),
@@ -371,14 +333,10 @@ impl SqlKeeper<FileStore<SparingFile<Unknown>>> {
 
     /// As `open_from`, of whatever the files at the path hold. Rows that contradict each other are refused with 25. What is refused is let go.
     pub fn open_file(rt: &HostRuntime, path: &str) -> Result<FileKeeper, Refusal>
-        ensures opened { IfOk result (λ k. HasCleanDisk (file_state k.0) → IsTrue (file_state k.0).is_open
-            → (before : Trees) × IsFoundIn (image_at ⟦<Unknown as Start>⟧) before × IsResumed before (file_state k.0).now.trees) }
-        ensures opens { IfOk result (λ k. HasCleanDisk (file_state k.0) → IsTrue (file_state k.0).is_open) }
-        ensures settled { IfOk result (λ k. HasCleanDisk (file_state k.0) → IsTrue (file_state k.0).is_open → LeavesTables (file_state k.0)) }
+        ensures opened { IfOk result (λ k. IsNewKeeper (AreFrom (image_at ⟦<Unknown as Start>⟧) IsResumed) (file_state k.0) k.1) }
         ensures agree { IfOk result (λ k. HasCleanDisk (file_state k.0) → IsTrue (file_state k.0).is_open
             → agree (tables_in (file_state k.0).now.trees) ≡ true) }
-        ensures uncounted { IfOk result (λ k. k.1 ≡ 0) }
-        ensures cause { IfErr result (λ e. (e ≡ Refusal.OutOfMemory) ⊎ ((e ≡ Refusal.Store) ⊎ (e ≡ Refusal.NotAReplica))) }
+        ensures cause { IfErr result IsOfOpening }
     {
         match SqlKeeper::open_from(rt, path, Unknown) {
             Ok(keeper) => keeper.agreeing(),

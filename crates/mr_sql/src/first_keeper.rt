@@ -1,25 +1,18 @@
 //! A database of the first schema, by itself.
 
-ghost use Rattle.std.specs.Prelude.{◌≡◌, ◌<◌, ◌⊎◌, false, Err, IfOk, IfErr, OnOk, IsTrue};
-ghost use Rattle.sqlite_disk.specs.Disk.{MoreFaults};
+ghost use Rattle.std.specs.Prelude.{◌≡◌, ◌⊎◌, Err, IfOk, IfErr, OnOk, IsTrue};
 ghost use Rattle.sqlite_trees.specs.Tree.{Trees};
-ghost use Rattle.sqlite_trees.specs.View.{IsClean};
-ghost use Rattle.sqlite_catalog.specs.Listing.{IsSound};
 ghost use Rattle.sqlite.specs.State.{HasCleanDisk};
 ghost use Rattle.sqlite.specs.Held.{state};
 ghost use Rattle.sqlite.specs.Steps.{over_memory};
-ghost use Rattle.mr_rows.specs.Schema.{first_schema};
 ghost use Rattle.mr_first.specs.FirstDatabase.{first_in};
 ghost use Rattle.mr_first.specs.FirstParts.{AreFirstKeysRising};
-ghost use Rattle.mr_sql.specs.Found.{IsRaised, LeavesRows, LeavesTables, StaysAs};
-ghost use Rattle.mr_sql.specs.Refused.{HasNoMeta};
-ghost use Rattle.mr_sql.specs.Failed.{HoldFirst};
+ghost use Rattle.mr_sql.specs.Found.{IsRaised, LeavesRows};
+ghost use Rattle.mr_sql.specs.Opened.{IsNewKeeper};
 
-use crate::adopt::retaken;
 use crate::create_first::create_first;
 use crate::faults::refusal_of;
-use crate::first::claim;
-use crate::sql_keeper::{GivenBack, SqlKeeper, open_connection};
+use crate::sql_keeper::{SqlKeeper, open_connection};
 use mr_base::Refusal;
 use mr_first::puts::are_keys_rising;
 use mr_first::{First, moving};
@@ -72,59 +65,11 @@ impl FirstKeeper<MemStore> {
 }
 
 impl<S: Alter + Drop> FirstKeeper<S> {
-    /// Makes a keeper of a connection to the database of a replica of the first schema, whichever it is, and leaves it as it is. Any
-    /// other database is refused with 26, and one whose rows break their rules with 25.
-    pub fn resume(
-        alloc: Global,
-        conn: Connection<S>,
-    ) -> Result<FirstKeeper<S>, (Refusal, GivenBack<S>)>
-        ensures opens { IfOk result (λ k. HasCleanDisk (state S.Store k) → IsTrue (state S.Store k).is_open) }
-        ensures resumed { IfOk result
-            (λ k. HasCleanDisk (state S.Store k) → IsTrue (state S.Store k).is_open → IsSound first_schema (state S.Store conn).committed.trees
-            × ((state S.Store k).now.trees ≡ (state S.Store conn).committed.trees)) }
-        ensures settled { IfOk result (λ k. HasCleanDisk (state S.Store k) → IsTrue (state S.Store k).is_open → LeavesRows (state S.Store k)) }
-        ensures cause { IfErr result (λ e. (e.0 ≡ Refusal.OutOfMemory) ⊎ ((e.0 ≡ Refusal.Store) ⊎ (e.0 ≡ Refusal.NotAReplica))) }
-        ensures clean { IfOk result (λ k. HasCleanDisk (state S.Store k) → HasCleanDisk (state S.Store conn)) }
-        ensures strange { IfErr result
-            (λ e. e.0 ≡ Refusal.NotAReplica → (c : _) × (e.1 ≡ GivenBack.Connection c)
-            × (HasCleanDisk (state S.Store c) → IsSound first_schema (state S.Store conn).committed.trees → HasNoMeta 1 (state S.Store conn).committed.trees)) }
-        ensures failed { IfErr result
-            (λ e. (c : _) → e.1 ≡ GivenBack.Connection c → HasCleanDisk (state S.Store c) → HoldFirst (state S.Store conn).committed.trees → e.0 ≡ Refusal.Store
-            → 0 < (state S.Store c).faults) }
-        ensures was_clean { IfErr result (λ e. (c : _) → e.1 ≡ GivenBack.Connection c → HasCleanDisk (state S.Store c) → HasCleanDisk (state S.Store conn)) }
-        ensures stays { IfErr result
-            (λ e. (c : _) → e.1 ≡ GivenBack.Connection c → HasCleanDisk (state S.Store c) → IsTrue (state S.Store c).is_open
-            → StaysAs (state S.Store conn).committed.trees (state S.Store c)) }
-        ensures crash { IfErr result
-            (λ e. (c : _) → e.1 ≡ GivenBack.Connection c → HasCleanDisk (state S.Store c) → (trees : Trees) → (state S.Store c).may_leave trees
-            → trees ≡ (state S.Store conn).committed.trees) }
-        ensures back { IfErr result
-            (λ e. (s : _) → e.1 ≡ GivenBack.Store s → IsClean (S.Store.view s) → IsTrue (S.Store.view s).is_open
-            → (S.Store.view s).trees ≡ (state S.Store conn).committed.trees) }
-        ensures failed_back { IfErr result
-            (λ e. (s : _) → e.1 ≡ GivenBack.Store s → IsClean (S.Store.view s) → HoldFirst (state S.Store conn).committed.trees → e.0 ≡ Refusal.Store
-            → MoreFaults (state S.Store conn).faults (S.Store.faults s) ⊎ ((state S.Store conn).is_open ≡ false)) }
-        ensures crash_back { IfErr result
-            (λ e. (s : _) → e.1 ≡ GivenBack.Store s → (trees : Trees) → S.Store.recovers s trees → (state S.Store conn).may_leave trees) }
-    {
-        let mut conn = match retaken(alloc, conn) {
-            Ok(conn) => conn,
-            Err((error, store)) => return Err((refusal_of(error), GivenBack::Store(store))),
-        };
-        match claim(&mut conn, alloc) {
-            Ok(()) => Ok(FirstKeeper { conn, alloc }),
-            Err(refusal) => Err((refusal, GivenBack::Connection(conn.connection))),
-        }
-    }
-
     /// Moves the tables up to the second schema, in one transaction. `log` takes the place of `write_log` and `undo`, which stay there
     /// without rows; all other rows stay. If a row of either has no partner in the other, it is refused with 25. What a refusal gives
     /// back can be moved up again, unless the store failed.
     pub fn move_up(self) -> Result<SqlKeeper<S>, (FirstKeeper<S>, Refusal)>
-        ensures opens { IfOk result (λ k. HasCleanDisk (state S.Store k.0) → IsTrue (state S.Store k.0).is_open) }
-        ensures raised { IfOk result (λ k. HasCleanDisk (state S.Store k.0) → IsRaised (state S.Store self).now.trees (state S.Store k.0).now.trees) }
-        ensures settled { IfOk result (λ k. HasCleanDisk (state S.Store k.0) → LeavesTables (state S.Store k.0)) }
-        ensures uncounted { IfOk result (λ k. k.1 ≡ 0) }
+        ensures raised { IfOk result (λ k. IsNewKeeper (IsRaised (state S.Store self).now.trees) (state S.Store k.0) k.1) }
         ensures cause { IfErr result (λ e. (e.1 ≡ Refusal.OutOfMemory) ⊎ (e.1 ≡ Refusal.Store)) }
         ensures stays { IfErr result (λ e. HasCleanDisk (state S.Store e.0) → IsTrue (state S.Store e.0).is_open
             → ((state S.Store e.0).now ≡ (state S.Store self).now) × ((state S.Store e.0).committed ≡ (state S.Store self).committed)) }

@@ -19,6 +19,6 @@ mod schema_number;
 mod schemas;
 mod sql_keeper;
 
-pub use files::{CopyKeeper, FileKeeper, KeeperFrom, NotCopied, NotTaken};
+pub use files::{CopyKeeper, FileKeeper, NotCopied};
 pub use first_keeper::{FirstKeeper, first_memory_is_honest};
-pub use sql_keeper::{GivenBack, SqlKeeper, memory_is_honest};
+pub use sql_keeper::{SqlKeeper, memory_is_honest};

@@ -10,9 +10,10 @@ ghost use Rattle.mr_rows.specs.Reads.{ReadsKept};
 ghost use Rattle.mr_sql.specs.FailedReads.{FailsByStoreAlone};
 ghost use Rattle.mr_sql.specs.Numbers.{do_numbers_agree};
 
-use crate::answers::{bookings_of, cancelled_of, cancels_of, errors_of, place_of, rooms_of};
+use crate::answers::{bookings_of, place_of, rooms_of};
 use crate::numbers::check_numbers;
 use mr_rows::Idle;
+use mr_rows::asked_rows::rows_in;
 use mr_store::{Answer, Question};
 use sqlite::{Alter, Error};
 use std::alloc::Global;
@@ -51,8 +52,8 @@ fn answer<S: Alter>(
             Ok(Answer::Bookings(bookings_of(conn, alloc, room, day)?))
         }
         Question::PlaceOf(room, id) => Ok(Answer::PlaceOf(place_of(conn, alloc, room, id)?)),
-        Question::Errors(room) => Ok(Answer::Errors(errors_of(conn, alloc, room)?)),
-        Question::Cancelled(room) => Ok(Answer::Cancelled(cancelled_of(conn, alloc, room)?)),
-        Question::Cancels(room) => Ok(Answer::Cancels(cancels_of(conn, alloc, room)?)),
+        Question::Errors(room) => Ok(Answer::Errors(rows_in(conn, alloc, room)?)),
+        Question::Cancelled(room) => Ok(Answer::Cancelled(rows_in(conn, alloc, room)?)),
+        Question::Cancels(room) => Ok(Answer::Cancels(rows_in(conn, alloc, room)?)),
     }
 }

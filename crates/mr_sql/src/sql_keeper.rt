@@ -1,7 +1,4 @@
-ghost use Rattle.std.specs.Prelude.{◌≡◌, ◌≢◌, ◌<◌, ◌⊎◌, true, false, IfOk, IfErr, IsTrue};
-ghost use Rattle.sqlite_disk.specs.Disk.{MoreFaults};
-ghost use Rattle.sqlite_trees.specs.Tree.{Trees};
-ghost use Rattle.sqlite_trees.specs.View.{IsClean};
+ghost use Rattle.std.specs.Prelude.{◌≡◌, ◌≢◌, ◌<◌, ◌⊎◌, true, IfOk, IfErr, IsTrue};
 ghost use Rattle.sqlite.specs.Steps.{over_memory, IsEmpty};
 ghost use Rattle.sqlite.specs.State.{HasCleanDisk};
 ghost use Rattle.sqlite.specs.Held.{state};
@@ -9,14 +6,12 @@ ghost use Rattle.mr_agree.specs.Agreeing.{agree};
 ghost use Rattle.mr_model.specs.Replica.{opening};
 ghost use Rattle.mr_model.specs.Tables.{Stands};
 ghost use Rattle.mr_store.specs.KeeperCalls.{failures_for};
-ghost use Rattle.sqlite_catalog.specs.Listing.{IsSound};
-ghost use Rattle.mr_rows.specs.Schema.{no_schema};
 ghost use Rattle.mr_rows.specs.Database.{IsKept, tables_in};
-ghost use Rattle.mr_sql.specs.Found.{AreFresh, IsAdopted, IsResumed, IsTaken, LeavesTables, StaysAs};
-ghost use Rattle.mr_sql.specs.Refused.{AreSomebodys, IsAnothers, IsNobodys};
-ghost use Rattle.mr_sql.specs.Failed.{StoreFailed, HoldReplica};
+ghost use Rattle.mr_sql.specs.Found.{AreFresh, IsAdopted, IsResumed, IsTaken, LeavesTables};
+ghost use Rattle.mr_sql.specs.Opened.{ComesBack, IsNewKeeper, IsOfOpening, RefusesToAdopt, RefusesToResume};
+ghost use Rattle.mr_sql.specs.Opening.{AreTakenAs, IsLeftOpen, RefusesFor};
 
-use crate::adopt::{adopt_tables, recover, retaken};
+use crate::adopt::{Whose, open_tables, retaken};
 use crate::create::create;
 use crate::faults::refusal_of;
 use crate::{load, questions};
@@ -169,113 +164,57 @@ impl SqlKeeper<MemStore> {
     }
 }
 
-/// What a refused adoption gives back: the connection, or the store alone if that couldn't be read as a database.
-#[derive(Drop)]
-pub enum GivenBack<S: Alter> {
-    Connection(Connection<S>),
-    Store(S),
-}
-
 impl<S: Alter + Drop> SqlKeeper<S> {
     /// Makes the database of a connection the keeper's. If it has no table, it gets those of a replica that knows nothing
     /// yet; if it is the database of this server and primary, it stays as it is, or is moved up from the first schema. Any
     /// other is refused with 26, with nothing written, and one whose rows break their rules with 25. What the connection hasn't
-    /// committed is rolled back.
+    /// committed is rolled back. A refusal gives the connection back, or the store alone if that can't be read as a database.
     pub fn adopt(
         alloc: Global,
         conn: Connection<S>,
         server: ServerId,
         primary: ServerId,
-    ) -> Result<SqlKeeper<S>, (Refusal, GivenBack<S>)>
-        ensures opens { IfOk result (λ k. HasCleanDisk (state S.Store k.0) → IsTrue (state S.Store k.0).is_open) }
-        ensures adopted { IfOk result
-            (λ k. HasCleanDisk (state S.Store k.0) → IsTrue (state S.Store k.0).is_open
-            → IsAdopted server primary (state S.Store conn).committed.trees (state S.Store k.0).now.trees) }
-        ensures settled { IfOk result (λ k. HasCleanDisk (state S.Store k.0) → IsTrue (state S.Store k.0).is_open → LeavesTables (state S.Store k.0)) }
-        ensures uncounted { IfOk result (λ k. k.1 ≡ 0) }
-        ensures cause { IfErr result (λ e. (e.0 ≡ Refusal.OutOfMemory) ⊎ ((e.0 ≡ Refusal.Store) ⊎ (e.0 ≡ Refusal.NotAReplica))) }
+    ) -> Result<SqlKeeper<S>, (Refusal, Result<Connection<S>, S>)>
+        ensures adopted { IfOk result (λ k. IsNewKeeper (IsAdopted server primary (state S.Store conn).committed.trees) (state S.Store k.0) k.1) }
         ensures clean { IfOk result (λ k. HasCleanDisk (state S.Store k.0) → HasCleanDisk (state S.Store conn)) }
-        ensures strange { IfErr result
-            (λ e. e.0 ≡ Refusal.NotAReplica → (c : _) × (e.1 ≡ GivenBack.Connection c)
-            × (HasCleanDisk (state S.Store c) → IsAnothers server primary (state S.Store conn).committed.trees)) }
-        ensures store { IfErr result
-            (λ e. (c : _) → e.1 ≡ GivenBack.Connection c → e.0 ≡ Refusal.Store → HasCleanDisk (state S.Store c)
-            → IsSound no_schema (state S.Store conn).committed.trees ⊎ AreSomebodys (state S.Store conn).committed.trees) }
-        ensures failed { IfErr result
-            (λ e. (c : _) → e.1 ≡ GivenBack.Connection c → HasCleanDisk (state S.Store c) → HoldReplica (state S.Store conn).committed.trees → e.0 ≡ Refusal.Store
-            → 0 < (state S.Store c).faults) }
-        ensures was_clean { IfErr result (λ e. (c : _) → e.1 ≡ GivenBack.Connection c → HasCleanDisk (state S.Store c) → HasCleanDisk (state S.Store conn)) }
-        ensures stays { IfErr result
-            (λ e. (c : _) → e.1 ≡ GivenBack.Connection c → HasCleanDisk (state S.Store c) → IsTrue (state S.Store c).is_open
-            → StaysAs (state S.Store conn).committed.trees (state S.Store c)) }
-        ensures crash { IfErr result
-            (λ e. (c : _) → e.1 ≡ GivenBack.Connection c → HasCleanDisk (state S.Store c) → (trees : Trees) → (state S.Store c).may_leave trees
-            → (trees ≡ (state S.Store conn).committed.trees) ⊎ IsAdopted server primary (state S.Store conn).committed.trees trees) }
-        ensures back { IfErr result
-            (λ e. (s : _) → e.1 ≡ GivenBack.Store s → IsClean (S.Store.view s) → IsTrue (S.Store.view s).is_open
-            → (S.Store.view s).trees ≡ (state S.Store conn).committed.trees) }
-        ensures failed_back { IfErr result
-            (λ e. (s : _) → e.1 ≡ GivenBack.Store s → IsClean (S.Store.view s) → HoldReplica (state S.Store conn).committed.trees → e.0 ≡ Refusal.Store
-            → MoreFaults (state S.Store conn).faults (S.Store.faults s) ⊎ ((state S.Store conn).is_open ≡ false)) }
-        ensures crash_back { IfErr result
-            (λ e. (s : _) → e.1 ≡ GivenBack.Store s → (trees : Trees) → S.Store.recovers s trees → (state S.Store conn).may_leave trees) }
+        ensures refused { IfErr result (λ e. ComesBack S.Store (RefusesToAdopt server primary) (state S.Store conn) e.0 e.1) }
+        ensures cause { IfErr result (λ e. IsOfOpening e.0) }
     {
-        let conn = match retaken(alloc, conn) {
-            Ok(conn) => conn,
-            Err((error, store)) => return Err((refusal_of(error), GivenBack::Store(store))),
-        };
-        match SqlKeeper::adopted(alloc, conn, server, primary, false) {
-            Ok(keeper) => Ok(keeper),
-            Err((refusal, conn)) => Err((refusal, GivenBack::Connection(conn.connection))),
-        }
+        SqlKeeper::reopened(alloc, conn, Whose::Of(server, primary))
     }
 
     /// Makes a keeper of a connection to the database of a replica, whichever it is. One of the first schema is moved up. Any
-    /// other database is refused with 26, and one whose rows break their rules with 25.
+    /// other database is refused with 26, and one whose rows break their rules with 25. What a refusal gives back is as of `adopt`.
     pub fn resume(
         alloc: Global,
         conn: Connection<S>,
-    ) -> Result<SqlKeeper<S>, (Refusal, GivenBack<S>)>
-        ensures opens { IfOk result (λ k. HasCleanDisk (state S.Store k.0) → IsTrue (state S.Store k.0).is_open) }
-        ensures resumed { IfOk result
-            (λ k. HasCleanDisk (state S.Store k.0) → IsTrue (state S.Store k.0).is_open
-            → IsResumed (state S.Store conn).committed.trees (state S.Store k.0).now.trees) }
-        ensures settled { IfOk result (λ k. HasCleanDisk (state S.Store k.0) → IsTrue (state S.Store k.0).is_open → LeavesTables (state S.Store k.0)) }
-        ensures uncounted { IfOk result (λ k. k.1 ≡ 0) }
-        ensures cause { IfErr result (λ e. (e.0 ≡ Refusal.OutOfMemory) ⊎ ((e.0 ≡ Refusal.Store) ⊎ (e.0 ≡ Refusal.NotAReplica))) }
+    ) -> Result<SqlKeeper<S>, (Refusal, Result<Connection<S>, S>)>
+        ensures resumed { IfOk result (λ k. IsNewKeeper (IsResumed (state S.Store conn).committed.trees) (state S.Store k.0) k.1) }
         ensures clean { IfOk result (λ k. HasCleanDisk (state S.Store k.0) → HasCleanDisk (state S.Store conn)) }
-        ensures strange { IfErr result
-            (λ e. e.0 ≡ Refusal.NotAReplica → (c : _) × (e.1 ≡ GivenBack.Connection c)
-            × (HasCleanDisk (state S.Store c) → IsNobodys (state S.Store conn).committed.trees)) }
-        ensures store { IfErr result
-            (λ e. (c : _) → e.1 ≡ GivenBack.Connection c → e.0 ≡ Refusal.Store → HasCleanDisk (state S.Store c)
-            → AreSomebodys (state S.Store conn).committed.trees) }
-        ensures failed { IfErr result
-            (λ e. (c : _) → e.1 ≡ GivenBack.Connection c → HasCleanDisk (state S.Store c) → HoldReplica (state S.Store conn).committed.trees → e.0 ≡ Refusal.Store
-            → 0 < (state S.Store c).faults) }
-        ensures was_clean { IfErr result (λ e. (c : _) → e.1 ≡ GivenBack.Connection c → HasCleanDisk (state S.Store c) → HasCleanDisk (state S.Store conn)) }
-        ensures stays { IfErr result
-            (λ e. (c : _) → e.1 ≡ GivenBack.Connection c → HasCleanDisk (state S.Store c) → IsTrue (state S.Store c).is_open
-            → StaysAs (state S.Store conn).committed.trees (state S.Store c)) }
-        ensures crash { IfErr result
-            (λ e. (c : _) → e.1 ≡ GivenBack.Connection c → HasCleanDisk (state S.Store c) → (trees : Trees) → (state S.Store c).may_leave trees
-            → (trees ≡ (state S.Store conn).committed.trees) ⊎ IsResumed (state S.Store conn).committed.trees trees) }
-        ensures back { IfErr result
-            (λ e. (s : _) → e.1 ≡ GivenBack.Store s → IsClean (S.Store.view s) → IsTrue (S.Store.view s).is_open
-            → (S.Store.view s).trees ≡ (state S.Store conn).committed.trees) }
-        ensures failed_back { IfErr result
-            (λ e. (s : _) → e.1 ≡ GivenBack.Store s → IsClean (S.Store.view s) → HoldReplica (state S.Store conn).committed.trees → e.0 ≡ Refusal.Store
-            → MoreFaults (state S.Store conn).faults (S.Store.faults s) ⊎ ((state S.Store conn).is_open ≡ false)) }
-        ensures crash_back { IfErr result
-            (λ e. (s : _) → e.1 ≡ GivenBack.Store s → (trees : Trees) → S.Store.recovers s trees → (state S.Store conn).may_leave trees) }
+        ensures refused { IfErr result (λ e. ComesBack S.Store RefusesToResume (state S.Store conn) e.0 e.1) }
+        ensures cause { IfErr result (λ e. IsOfOpening e.0) }
+    {
+        SqlKeeper::reopened(alloc, conn, Whose::Anyones)
+    }
+
+    // Makes a keeper of a connection to the database of those who are wanted.
+    fn reopened(
+        alloc: Global,
+        conn: Connection<S>,
+        whose: Whose,
+    ) -> Result<SqlKeeper<S>, (Refusal, Result<Connection<S>, S>)>
+        ensures opened { IfOk result (λ k. IsNewKeeper (AreTakenAs whose (state S.Store conn).committed.trees) (state S.Store k.0) k.1) }
+        ensures clean { IfOk result (λ k. HasCleanDisk (state S.Store k.0) → HasCleanDisk (state S.Store conn)) }
+        ensures refused { IfErr result (λ e. ComesBack S.Store (RefusesFor whose) (state S.Store conn) e.0 e.1) }
+        ensures cause { IfErr result (λ e. IsOfOpening e.0) }
     {
         let conn = match retaken(alloc, conn) {
             Ok(conn) => conn,
-            Err((error, store)) => return Err((refusal_of(error), GivenBack::Store(store))),
+            Err((refusal, store)) => return Err((refusal, Err(store))),
         };
-        match SqlKeeper::recovered(alloc, conn, false) {
+        match SqlKeeper::over(alloc, conn, whose, false) {
             Ok(keeper) => Ok(keeper),
-            Err((refusal, conn)) => Err((refusal, GivenBack::Connection(conn.connection))),
+            Err((refusal, conn)) => Err((refusal, Ok(conn.connection))),
         }
     }
 }
@@ -286,13 +225,7 @@ impl<S: Alter + Drop> SqlKeeper<S> {
     pub(crate) fn agreeing(self) -> Result<SqlKeeper<S>, Refusal>
         ensures agree { IfOk result (λ k. HasCleanDisk (state S.Store k.0) → IsTrue (state S.Store k.0).is_open
             → agree (tables_in (state S.Store k.0).now.trees) ≡ true) }
-        ensures same { IfOk result (λ k. HasCleanDisk (state S.Store k.0) → IsTrue (state S.Store k.0).is_open
-            → (state S.Store k.0).now ≡ (state S.Store self.0).now) }
-        ensures was_open { IfOk result (λ k. HasCleanDisk (state S.Store k.0) → IsTrue (state S.Store k.0).is_open → IsTrue (state S.Store self.0).is_open) }
-        ensures opens { IfOk result (λ k. HasCleanDisk (state S.Store k.0) → IsTrue (state S.Store self.0).is_open → IsTrue (state S.Store k.0).is_open) }
-        ensures clean { IfOk result (λ k. HasCleanDisk (state S.Store k.0) → HasCleanDisk (state S.Store self.0)) }
-        ensures settled { IfOk result (λ k. HasCleanDisk (state S.Store k.0) → IsTrue (state S.Store k.0).is_open
-            → LeavesTables (state S.Store self.0) → LeavesTables (state S.Store k.0)) }
+        ensures same { IfOk result (λ k. IsLeftOpen (state S.Store self.0) (state S.Store k.0)) }
         ensures counted { IfOk result (λ k. k.1 ≡ self.1) }
         ensures cause { IfErr result (λ e. (e ≡ Refusal.OutOfMemory) ⊎ (e ≡ Refusal.Store)) }
     {
@@ -329,70 +262,21 @@ impl<S: Alter> SqlKeeper<S> {
         }
     }
 
-    /// The keeper of a connection that was just opened, as `adopt` makes it. It keeps the rows that the open reads, if these are to be kept.
-    pub(crate) fn adopted(
+    /// The keeper of a connection that was just opened, or the connection. It keeps the rows that the open reads, if these are to be kept.
+    pub(crate) fn over(
         alloc: Global,
         mut conn: Idle<S>,
-        server: ServerId,
-        primary: ServerId,
+        whose: Whose,
         keep: bool,
     ) -> Result<SqlKeeper<S>, (Refusal, Idle<S>)>
-        requires taken { HasCleanDisk (state S.Store conn) → IsTaken (state S.Store conn).committed.trees (state S.Store conn) }
-        ensures opens { IfOk result (λ k. HasCleanDisk (state S.Store k.0) → IsTrue (state S.Store k.0).is_open) }
-        ensures adopted { IfOk result
-            (λ k. HasCleanDisk (state S.Store k.0) → IsTrue (state S.Store k.0).is_open
-            → IsAdopted server primary (state S.Store conn).committed.trees (state S.Store k.0).now.trees) }
-        ensures settled { IfOk result (λ k. HasCleanDisk (state S.Store k.0) → IsTrue (state S.Store k.0).is_open → LeavesTables (state S.Store k.0)) }
-        ensures uncounted { IfOk result (λ k. k.1 ≡ 0) }
+        requires taken { HasCleanDisk (state S.Store conn) → IsTaken (state S.Store conn) }
+        ensures opened { IfOk result (λ k. IsNewKeeper (AreTakenAs whose (state S.Store conn).now.trees) (state S.Store k.0) k.1) }
         ensures clean { IfOk result (λ k. HasCleanDisk (state S.Store k.0) → HasCleanDisk (state S.Store conn)) }
-        ensures was_clean { IfErr result (λ e. HasCleanDisk (state S.Store e.1) → HasCleanDisk (state S.Store conn)) }
-        ensures cause { IfErr result (λ e. (e.0 ≡ Refusal.OutOfMemory) ⊎ ((e.0 ≡ Refusal.Store) ⊎ (e.0 ≡ Refusal.NotAReplica))) }
-        ensures strange { IfErr result
-            (λ e. HasCleanDisk (state S.Store e.1) → e.0 ≡ Refusal.NotAReplica → IsAnothers server primary (state S.Store conn).committed.trees) }
-        ensures store { IfErr result
-            (λ e. HasCleanDisk (state S.Store e.1) → e.0 ≡ Refusal.Store → IsSound no_schema (state S.Store conn).committed.trees
-            ⊎ AreSomebodys (state S.Store conn).committed.trees) }
-        ensures failed { IfErr result (λ e. HasCleanDisk (state S.Store e.1) → HoldReplica (state S.Store conn).committed.trees → e.0 ≡ Refusal.Store
-            → StoreFailed (state S.Store conn) (state S.Store e.1)) }
-        ensures stays { IfErr result
-            (λ e. HasCleanDisk (state S.Store e.1) → IsTrue (state S.Store e.1).is_open → StaysAs (state S.Store conn).committed.trees (state S.Store e.1)) }
-        ensures crash { IfErr result
-            (λ e. HasCleanDisk (state S.Store e.1) → (trees : Trees) → (state S.Store e.1).may_leave trees
-            → (trees ≡ (state S.Store conn).committed.trees) ⊎ IsAdopted server primary (state S.Store conn).committed.trees trees) }
+        ensures refused { IfErr result (λ e. HasCleanDisk (state S.Store e.1)
+            → HasCleanDisk (state S.Store conn) × RefusesFor whose (state S.Store conn).now.trees e.0 (state S.Store e.1)) }
+        ensures cause { IfErr result (λ e. IsOfOpening e.0) }
     {
-        match adopt_tables(&mut conn, alloc, server, primary, keep) {
-            Ok(fresh) => Ok(SqlKeeper::opened(alloc, conn, fresh)),
-            Err(refusal) => Err((refusal, conn)),
-        }
-    }
-
-    /// The keeper of a connection that was just opened, as `resume` makes it. It keeps the rows that the open reads, if these are to be kept.
-    pub(crate) fn recovered(
-        alloc: Global,
-        mut conn: Idle<S>,
-        keep: bool,
-    ) -> Result<SqlKeeper<S>, (Refusal, Idle<S>)>
-        requires taken { HasCleanDisk (state S.Store conn) → IsTaken (state S.Store conn).committed.trees (state S.Store conn) }
-        ensures opens { IfOk result (λ k. HasCleanDisk (state S.Store k.0) → IsTrue (state S.Store k.0).is_open) }
-        ensures resumed { IfOk result
-            (λ k. HasCleanDisk (state S.Store k.0) → IsTrue (state S.Store k.0).is_open
-            → IsResumed (state S.Store conn).committed.trees (state S.Store k.0).now.trees) }
-        ensures settled { IfOk result (λ k. HasCleanDisk (state S.Store k.0) → IsTrue (state S.Store k.0).is_open → LeavesTables (state S.Store k.0)) }
-        ensures uncounted { IfOk result (λ k. k.1 ≡ 0) }
-        ensures clean { IfOk result (λ k. HasCleanDisk (state S.Store k.0) → HasCleanDisk (state S.Store conn)) }
-        ensures was_clean { IfErr result (λ e. HasCleanDisk (state S.Store e.1) → HasCleanDisk (state S.Store conn)) }
-        ensures cause { IfErr result (λ e. (e.0 ≡ Refusal.OutOfMemory) ⊎ ((e.0 ≡ Refusal.Store) ⊎ (e.0 ≡ Refusal.NotAReplica))) }
-        ensures strange { IfErr result (λ e. HasCleanDisk (state S.Store e.1) → e.0 ≡ Refusal.NotAReplica → IsNobodys (state S.Store conn).committed.trees) }
-        ensures store { IfErr result (λ e. HasCleanDisk (state S.Store e.1) → e.0 ≡ Refusal.Store → AreSomebodys (state S.Store conn).committed.trees) }
-        ensures failed { IfErr result (λ e. HasCleanDisk (state S.Store e.1) → HoldReplica (state S.Store conn).committed.trees → e.0 ≡ Refusal.Store
-            → StoreFailed (state S.Store conn) (state S.Store e.1)) }
-        ensures stays { IfErr result
-            (λ e. HasCleanDisk (state S.Store e.1) → IsTrue (state S.Store e.1).is_open → StaysAs (state S.Store conn).committed.trees (state S.Store e.1)) }
-        ensures crash { IfErr result
-            (λ e. HasCleanDisk (state S.Store e.1) → (trees : Trees) → (state S.Store e.1).may_leave trees
-            → (trees ≡ (state S.Store conn).committed.trees) ⊎ IsResumed (state S.Store conn).committed.trees trees) }
-    {
-        match recover(&mut conn, alloc, keep) {
+        match open_tables(&mut conn, alloc, whose, keep) {
             Ok(fresh) => Ok(SqlKeeper::opened(alloc, conn, fresh)),
             Err(refusal) => Err((refusal, conn)),
         }

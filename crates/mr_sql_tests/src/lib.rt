@@ -47,3 +47,5 @@ mod script_tests;
 mod scripts;
 #[cfg(test)]
 mod stops;
+#[cfg(test)]
+mod without_desk;

@@ -11,7 +11,7 @@ use crate::scripts::TRUNCATED;
 use mr_base::{Refusal, ServerId};
 use mr_first::First;
 use mr_service::{CalendarPart, Service};
-use mr_sql::{FirstKeeper, GivenBack, SqlKeeper};
+use mr_sql::{FirstKeeper, SqlKeeper};
 use mr_store::{Keeper, ListKeeper};
 use sqlite::{Connection, MemStore};
 use std::alloc::Global;
@@ -199,20 +199,20 @@ fn adopt(
 ) -> Result<(u32, Connection<MemStore>), Refusal> {
     match SqlKeeper::adopt(alloc, conn, of, primary) {
         Ok(keeper) => Ok((0, keeper.release())),
-        Err((refusal, GivenBack::Connection(conn))) => Ok((refusal.number(), conn)),
-        Err((refusal, GivenBack::Store(_))) => Err(refusal),
+        Err((refusal, Ok(conn))) => Ok((refusal.number(), conn)),
+        Err((refusal, Err(_))) => Err(refusal),
     }
 }
 
-/// The same of a call that takes tables of the first schema alone, and as they are.
+/// The same of a call that takes the tables of a replica, whichever it is.
 fn resume(
     alloc: Global,
     conn: Connection<MemStore>,
 ) -> Result<(u32, Connection<MemStore>), Refusal> {
-    match FirstKeeper::resume(alloc, conn) {
-        Ok(first) => Ok((0, first.release())),
-        Err((refusal, GivenBack::Connection(conn))) => Ok((refusal.number(), conn)),
-        Err((refusal, GivenBack::Store(_))) => Err(refusal),
+    match SqlKeeper::resume(alloc, conn) {
+        Ok(keeper) => Ok((0, keeper.release())),
+        Err((refusal, Ok(conn))) => Ok((refusal.number(), conn)),
+        Err((refusal, Err(_))) => Err(refusal),
     }
 }
 
@@ -335,16 +335,17 @@ fn other_schemas_are_no_replicas(rt: HostRuntime) {
     check_trials(&rt, rt.alloc(), &OF_OTHER_SCHEMAS);
 }
 
-static RESUMED: [Trial; 5] = [
-    Trial::Resume(0),
-    Trial::Schema(1, 7),
-    Trial::Adopt(2, 1, 0),
+static RESUMED: [Trial; 6] = [
+    Trial::Execute("UPDATE meta SET schema = 2"),
     Trial::Resume(26),
+    Trial::Schema(2, 7),
+    Trial::Execute("UPDATE meta SET schema = 1"),
+    Trial::Resume(0),
     Trial::Schema(2, 10),
 ];
 
 #[test]
-fn the_first_schema_alone_is_resumed_as_it_is(rt: HostRuntime) {
+fn first_tables_are_resumed_whosever_they_are(rt: HostRuntime) {
     check_trials(&rt, rt.alloc(), &RESUMED);
 }
 

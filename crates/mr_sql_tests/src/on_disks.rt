@@ -9,7 +9,7 @@ use crate::opening::server;
 use crate::same_text::{holds, is_text};
 use mr_base::Refusal;
 use mr_service::Service;
-use mr_sql::{GivenBack, SqlKeeper};
+use mr_sql::SqlKeeper;
 use sqlite::{Alter, Connection, FileStore, Files, Options};
 use sqlite_disk::{Disk, Fuse, Memory};
 use std::alloc::Global;
@@ -75,8 +75,8 @@ fn adopted<S: Alter + Drop>(
     };
     match SqlKeeper::adopt(alloc, conn, own, primary) {
         Ok(keeper) => Ok(Service::new(alloc, keeper)),
-        Err((_, GivenBack::Connection(conn))) => Err(conn.into_store()),
-        Err((_, GivenBack::Store(store))) => Err(store),
+        Err((_, Ok(conn))) => Err(conn.into_store()),
+        Err((_, Err(store))) => Err(store),
     }
 }
 

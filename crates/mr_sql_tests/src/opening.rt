@@ -1,9 +1,10 @@
 // The keepers that the tests run on, each of a replica that knows nothing yet. The primary is 1.
 
+use crate::without_desk::WithoutDesk;
 use mr_base::{Refusal, ServerId};
 use mr_service::Service;
 use mr_sql::SqlKeeper;
-use mr_store::{Keeper, ListKeeper, WithoutDesk};
+use mr_store::{Keeper, ListKeeper};
 use sqlite::MemStore;
 use std::alloc::Global;
 use std::process::Abort;

@@ -4,10 +4,11 @@
 use crate::acts::{Act, said};
 use crate::opening::{Opening, new_service};
 use crate::same_text::same_text;
+use crate::without_desk::WithoutDesk;
 use mr_base::Refusal;
 use mr_service::Service;
 use mr_sql::SqlKeeper;
-use mr_store::{ListKeeper, WithoutDesk};
+use mr_store::ListKeeper;
 use sqlite::MemStore;
 use std::alloc::Global;
 use std::process::Abort;

@@ -9,10 +9,11 @@ use crate::scripts::{
     BOOKED, CHAIN, COMMITTED_FIRST, EMPTY, ENDS, EQUAL_TIMES, LONGEST, MADE_VOID, MET, Row,
     TAKEN_BACK, TOUCHING, TRUNCATED, TURNED,
 };
+use crate::without_desk::WithoutDesk;
 use mr_base::Refusal;
 use mr_service::{Reply, Service, reply_text};
 use mr_sql::SqlKeeper;
-use mr_store::{Keeper, ListKeeper, WithoutDesk};
+use mr_store::{Keeper, ListKeeper};
 use sqlite::MemStore;
 use std::alloc::Global;
 use std::process::Abort;

@@ -4,31 +4,57 @@ use Rattle.sqlite.proofs.StateLemmas.{survives_weaker}
 use Rattle.mr_rows.specs.Schema.{no_schema}
 use Rattle.mr_sql.specs.Blank.{IsBlank}
 use Rattle.mr_sql.proofs.OpeningLemmas.{opening_stands}
-use Rattle.mr_sql.proofs.TakenLemmas.{begins, sound_as}
+use Rattle.mr_sql.proofs.OpeningLaws.{blank_holds_none, of_opening}
+use Rattle.mr_sql.proofs.TakenLemmas.{not_strange, sound_as, stays}
 use Rattle.mr_sql.proofs.adopt.begin.Goals as goal
 
-pub returns-in-Ok-clause-begun : goal.returns-in-Ok-clause-begun
-returns-in-Ok-clause-begun g c trees clean taken now =
+pub returns-in-Ok : goal.returns-in-Ok
+returns-in-Ok g c =
     let old = state g.S.Store c.args.conn.now in
     let new = state g.S.Store c.create.new.conn in
     let blank : IsBlank no_schema old.now = (c.requires.blank, tt) in
-    begins _ _ trees old new taken c.requires.blank (c.in-Ok.ensures.kept clean now blank)
-    (opening_stands _ _ _ c.number.ensures.in_range c.number-2.ensures.in_range c.number.ensures.value c.number-2.ensures.value c.opening-row.ensures (c.in-Ok.ensures.tables clean now blank))
+    record {
+      opening = record {
+        survives = survives_weaker old new _ _
+            (λ _ db are taken. inl (
+              sound_as old no_schema taken c.requires.blank,
+              opening_stands _ _ db c.number.ensures.in_range c.number-2.ensures.in_range c.number.ensures.value c.number-2.ensures.value c.opening-row.ensures (are blank),
+            )) c.create.ensures.survives;
+        opened = λ clean taken.
+            let now = c.in-Ok.ensures.lasts clean in
+            record {
+              is_open = now;
+              kept = c.in-Ok.ensures.kept clean now blank;
+              tables = inl (
+                sound_as old no_schema taken c.requires.blank,
+                opening_stands _ _ _ c.number.ensures.in_range c.number-2.ensures.in_range c.number.ensures.value c.number-2.ensures.value c.opening-row.ensures (c.in-Ok.ensures.tables clean now blank),
+              );
+              fresh = tt;
+            };
+        refused = λ clean taken. tt;
+        cause = tt;
+      };
+    }
 
-pub returns-in-Ok-clause-survives : goal.returns-in-Ok-clause-survives
-returns-in-Ok-clause-survives g c =
+pub returns-in-Err : goal.returns-in-Err
+returns-in-Err g c =
     let old = state g.S.Store c.args.conn.now in
-    survives_weaker old (state g.S.Store c.create.new.conn) _ _
-    (λ _ db are trees taken. inl (
-      sound_as trees old no_schema taken c.requires.blank,
-      opening_stands _ _ db c.number.ensures.in_range c.number-2.ensures.in_range c.number.ensures.value c.number-2.ensures.value c.opening-row.ensures (are (c.requires.blank, tt)),
-    )) c.create.ensures.survives
-
-pub returns-in-Err-clause-survives : goal.returns-in-Err-clause-survives
-returns-in-Err-clause-survives g c =
-    let old = state g.S.Store c.args.conn.now in
-    survives_weaker old (state g.S.Store c.create.new.conn) _ _
-    (λ _ db are trees taken. inl (
-      sound_as trees old no_schema taken c.requires.blank,
-      opening_stands _ _ db c.number.ensures.in_range c.number-2.ensures.in_range c.number.ensures.value c.number-2.ensures.value c.opening-row.ensures (are (c.requires.blank, tt)),
-    )) c.create.ensures.survives
+    let new = state g.S.Store c.create.new.conn in
+    let blank : IsBlank no_schema old.now = (c.requires.blank, tt) in
+    record {
+      opening = record {
+        survives = survives_weaker old new _ _
+            (λ _ db are taken. inl (
+              sound_as old no_schema taken c.requires.blank,
+              opening_stands _ _ db c.number.ensures.in_range c.number-2.ensures.in_range c.number.ensures.value c.number-2.ensures.value c.opening-row.ensures (are blank),
+            )) c.create.ensures.survives;
+        opened = λ clean taken. tt;
+        refused = λ clean taken. record {
+          strange = λ is. absurd (not_strange c.refusal_of.ensures.cause is);
+          store = λ _. inl (sound_as old no_schema taken c.requires.blank);
+          failed = λ held is. absurd (blank_holds_none old taken c.requires.blank held);
+          stays = λ now. stays old new taken (c.in-Err.ensures.refused clean now blank taken.settled);
+        };
+        cause = of_opening c.refusal_of.result c.refusal_of.ensures.cause;
+      };
+    }

@@ -1,55 +1,46 @@
-use Rattle.std.proofs.Common.{inl, inr, ◌≡◌, refl}
+use Rattle.std.proofs.Common.{◌≤◌, Bool, None, Ok, Some, Option, IsTrue, inl, inr, length, refl, rules}
+use Rattle.sqlite_trees.specs.Tree.{Trees}
 use Rattle.sqlite.specs.Held.{state}
-use Rattle.mr_base.specs.declared.refusals.Refusal.TheVariants as refusal
+use Rattle.mr_model.specs.Tables.{Tables}
+use Rattle.mr_rows.specs.Kept.{AreAllFound}
 use Rattle.mr_rows.specs.Schema.{our_schema}
-use Rattle.mr_sql.specs.Refused.{HasNoMeta}
-use Rattle.mr_sql.specs.Failed.{StoreFailed}
-use Rattle.mr_sql.proofs.CreateLemmas.{on_err_any}
-use Rattle.mr_sql.proofs.TakenLemmas.{failed_of, handed_on}
-use Rattle.mr_sql.proofs.CrashLemmas.{looked_twice}
-use Rattle.mr_sql.proofs.FailedLemmas.{failed_since}
+use Rattle.mr_rows.specs.Shown.{AreOurRows}
+use Rattle.mr_rows.proofs.CauseLemmas.{looks_fail}
+use Rattle.mr_rows.proofs.QueryLemmas.{looks_made, looks_then}
+use Rattle.mr_sql.specs.Opening.{AreFoundHere}
+use Rattle.mr_sql.specs.Refused.{HasOtherNumber}
 use Rattle.mr_sql.proofs.adopt.find.Goals as goal
 
-pub returns-in_err-check_number-clause-stays : goal.returns-in_err-check_number-clause-stays
-returns-in_err-check_number-clause-stays g c trees clean taken =
-    on_err_any c.from_residual.result (c.in_err-check_number.ensures.stays our_schema trees (inl refl) clean taken)
+found_here : (keep : Bool) (trees : Trees) (t : Option Tables) → AreAllFound keep trees t → AreFoundHere keep trees t
+found_here keep trees None all = inl all.1
+found_here keep trees (Some t) all = all
 
-pub returns-in_err-check_number-clause-strange : goal.returns-in_err-check_number-clause-strange
-returns-in_err-check_number-clause-strange g c trees clean taken =
-    handed_on (λ e. e ≡ refusal.NotAReplica → HasNoMeta 2 trees) c.in_err-check_number.field-0.0 c.from_residual.result (λ is. inr (c.in_err-check_number.ensures.strange our_schema trees (inl refl) clean taken is)) c.from_residual.ensures.1
+abbrev Other : Trees → Bool → Type 0
+Other trees other = IsTrue other → HasOtherNumber 2 trees
 
-pub returns-clause-found : goal.returns-clause-found
-returns-clause-found g c trees clean taken = c.find_row.ensures.found trees clean (c.in_ok-check_number.ensures.taken our_schema trees (inl refl) (c.find_row.ensures.clean clean) taken)
+abbrev Asked : Trees → Type 0
+Asked trees = AreOurRows trees × (length (trees 0) ≤ 1)
 
-pub returns-clause-kept : goal.returns-clause-kept
-returns-clause-kept g c trees clean taken = c.find_row.ensures.kept trees clean (c.in_ok-check_number.ensures.taken our_schema trees (inl refl) (c.find_row.ensures.clean clean) taken)
+pub returns-in_err-is_other-clause-looks : goal.returns-in_err-is_other-clause-looks
+returns-in_err-is_other-clause-looks g c = let read = c.has_other_number.ensures.looks our_schema (inl refl) in (read.0, read.1, λ clean here. (search rules, search rules))
 
-pub returns-clause-opens : goal.returns-clause-opens
-returns-clause-opens g c trees clean taken = c.find_row.ensures.opens trees clean (c.in_ok-check_number.ensures.taken our_schema trees (inl refl) (c.find_row.ensures.clean clean) taken)
+pub returns-in_err-is_other-clause-cause : goal.returns-in_err-is_other-clause-cause
+returns-in_err-is_other-clause-cause g c = λ clean here rows. let told = c.has_other_number.ensures.cause our_schema (inl refl) clean here tt in search rules
 
-pub returns-clause-stays : goal.returns-clause-stays
-returns-clause-stays g c trees clean taken = c.find_row.ensures.stays trees clean (c.in_ok-check_number.ensures.taken our_schema trees (inl refl) (c.find_row.ensures.clean clean) taken)
+pub returns-then-is_other-clause-looks : goal.returns-then-is_other-clause-looks
+returns-then-is_other-clause-looks g c =
+    looks_made (state g.S.Store c.args.conn.now) (state g.S.Store c.has_other_number.new.conn) c.in_ok-is_other.is_other (Other (state g.S.Store c.args.conn.now).now.trees) (Ok None) (AreFoundHere c.args.keep (state g.S.Store c.args.conn.now).now.trees)
+    (λ here other. inr (other c.if-is_other.true)) (c.in_ok-is_other.ensures.looks our_schema (inl refl))
 
-pub returns-clause-strange : goal.returns-clause-strange
-returns-clause-strange g c trees clean taken =
-    failed_of c.find_row.result _ _ (λ e none is. inl (none is)) (c.find_row.ensures.strange trees clean (c.in_ok-check_number.ensures.taken our_schema trees (inl refl) (c.find_row.ensures.clean clean) taken))
+pub returns-clause-looks : goal.returns-clause-looks
+returns-clause-looks g c =
+    let a = state g.S.Store c.args.conn.now in
+    looks_then a (state g.S.Store c.has_other_number.new.conn) (state g.S.Store c.find_all.new.conn) c.in_ok-is_other.is_other (Other a.now.trees) c.find_all.result (λ db t. AreAllFound c.args.keep db.trees t) (AreFoundHere c.args.keep a.now.trees)
+    (λ here t p q. found_here c.args.keep a.now.trees t q) (c.in_ok-is_other.ensures.looks our_schema (inl refl)) c.find_all.ensures.looks
 
-pub returns-in_err-check_number-clause-survives : goal.returns-in_err-check_number-clause-survives
-returns-in_err-check_number-clause-survives g c = c.check_number.ensures.survives our_schema (inl refl)
-
-pub returns-clause-survives : goal.returns-clause-survives
-returns-clause-survives g c =
-    looked_twice (state g.S.Store c.args.conn.now) (state g.S.Store c.check_number.new.conn) (state g.S.Store c.find_row.new.conn) our_schema
-    (λ clean trees taken. c.in_ok-check_number.ensures.taken our_schema trees (inl refl) (c.find_row.ensures.clean clean) taken) (c.check_number.ensures.survives our_schema (inl refl)) c.find_row.ensures.survives
-
-pub returns-in_err-check_number-clause-failed : goal.returns-in_err-check_number-clause-failed
-returns-in_err-check_number-clause-failed g c trees clean taken held =
-    handed_on (λ e. e ≡ refusal.Store → StoreFailed (state g.S.Store c.args.conn.now) (state g.S.Store c.check_number.new.conn)) c.in_err-check_number.field-0.0 c.from_residual.result
-    (c.in_err-check_number.ensures.failed our_schema trees (inl refl) clean taken) c.from_residual.ensures.1
-
-pub returns-clause-failed : goal.returns-clause-failed
-returns-clause-failed g c trees clean taken held =
-    let between = c.in_ok-check_number.ensures.taken our_schema trees (inl refl) (c.find_row.ensures.clean clean) taken in
-    failed_of c.find_row.result _ _
-    (λ e told is. failed_since (state g.S.Store c.args.conn.now) (state g.S.Store c.check_number.new.conn) (state g.S.Store c.find_row.new.conn) _ (c.check_number.ensures.survives our_schema (inl refl)) between.0.is_open (told is))
-    (c.find_row.ensures.failed trees clean between held)
+pub returns-clause-cause : goal.returns-clause-cause
+returns-clause-cause g c =
+    let a = state g.S.Store c.args.conn.now in
+    let b = state g.S.Store c.has_other_number.new.conn in
+    looks_fail a b (state g.S.Store c.find_all.new.conn) c.in_ok-is_other.is_other (Other a.now.trees) c.find_all.result (λ t. AreAllFound c.args.keep b.now.trees t) Asked Asked (c.in_ok-is_other.ensures.looks our_schema (inl refl)) c.find_all.ensures.looks
+    (λ t rows. rows) c.find_all.ensures.cause

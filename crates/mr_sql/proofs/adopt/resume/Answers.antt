@@ -1,60 +1,52 @@
-use Rattle.std.proofs.Common.{◌≡◌, refl, inl, inr, subst}
+use Rattle.std.proofs.Common.{◌≡◌, None, Ok, Some, inl, inr, refl, subst}
 use Rattle.sqlite.specs.Held.{state}
-use Rattle.mr_base.specs.declared.refusals.Refusal.TheVariants as refusal
+use Rattle.sqlite.specs.State.{State}
 use Rattle.mr_model.specs.Tables.{Tables}
+use Rattle.mr_rows.specs.Reads.{IsPlaced, Looks}
 use Rattle.mr_rows.specs.Schema.{our_schema}
-use Rattle.mr_sql.specs.Refused.{IsAnothers}
-use Rattle.mr_sql.specs.Found.{IsAdopted, Names}
-use Rattle.mr_sql.specs.Failed.{StoreFailed}
-use Rattle.mr_sql.proofs.CreateLemmas.{on_err_any}
-use Rattle.mr_sql.proofs.TakenLemmas.{adopts, anothers_ours, found_stays, handed_on, named_as}
-use Rattle.mr_sql.proofs.CrashLemmas.{looked_alone}
-use Rattle.mr_sql.proofs.FreshLemmas.{fresh_of}
+use Rattle.mr_rows.proofs.FoundLemmas.{meta_is_found}
+use Rattle.mr_sql.specs.Opening.{AreFoundHere, Suits}
+use Rattle.mr_sql.specs.Found.{IsTaken}
+use Rattle.mr_sql.proofs.TakenLemmas.{somebodys, sound_as, strange_ours}
+use Rattle.mr_sql.proofs.FailedLemmas.{rows_found, store_failed}
+use Rattle.mr_sql.proofs.OpeningLaws.{found_open, read_failed, read_strange}
 use Rattle.mr_sql.proofs.adopt.resume.Goals as goal
 
-pub returns-in_err-tables-clause-stays : goal.returns-in_err-tables-clause-stays
-returns-in_err-tables-clause-stays g c trees clean taken = on_err_any c.from_residual.result (c.in_err-tables.ensures.stays trees clean (taken, c.requires.ours))
+here : (s : State) → s.now.schema ≡ our_schema → IsTaken s → IsPlaced s
+here s ours taken = record { schema = ours; settled = taken.settled }
 
-pub returns-in_err-tables-clause-strange : goal.returns-in_err-tables-clause-strange
-returns-in_err-tables-clause-strange g c trees clean taken =
-    handed_on (λ e. e ≡ refusal.NotAReplica → IsAnothers c.args.server c.args.primary trees) c.in_err-tables.field-0.0 c.from_residual.result
-    (λ is. anothers_ours c.args.server c.args.primary trees (state g.S.Store c.args.conn.now) taken c.requires.ours (inl (c.in_err-tables.ensures.strange trees clean (taken, c.requires.ours) is))) c.from_residual.ensures.1
+pub returns-then-is_of : goal.returns-then-is_of
+returns-then-is_of g c = record {
+  opening = found_open c.args.whose (state g.S.Store c.args.conn.now) (state g.S.Store c.find.new.conn) c.args.keep c.in-Ok-Some.tables c.kept.result c.requires.ours (rw c.in-Ok-Some.field-0-is at c.in-Ok-Some.ensures.looks)
+      (subst (λ (t : Tables). Suits c.args.whose t.meta) c.tables.view_is (c.if-is_of.ensures.same refl)) c.kept.ensures;
+}
 
-pub returns-then-is_of-clause-resumed : goal.returns-then-is_of-clause-resumed
-returns-then-is_of-clause-resumed g c trees clean taken now =
-    adopts c.args.server c.args.primary trees _ (state g.S.Store c.find.new.conn) (c.in_ok-tables.ensures.found trees clean (taken, c.requires.ours) now) (subst (λ (t : Tables). Names c.args.server c.args.primary t.meta) c.tables.view_is (c.if-is_of.ensures.same refl))
+pub returns-else-is_of : goal.returns-else-is_of
+returns-else-is_of g c =
+    let old = state g.S.Store c.args.conn.now in
+    let looks : Looks old (state g.S.Store c.find.new.conn) (Ok (Some c.in-Ok-Some.tables)) (AreFoundHere c.args.keep old.now.trees) = rw c.in-Ok-Some.field-0-is at c.in-Ok-Some.ensures.looks in
+    let other = subst (λ (t : Tables). Suits c.args.whose t.meta → ⊥) c.tables.view_is (c.if-is_of.ensures.other refl) in
+    record {
+      opening = read_strange c.args.whose old (state g.S.Store c.find.new.conn) IsPlaced (here old c.requires.ours) looks.0 looks.1 (λ clean taken.
+          let meta = meta_is_found old.now.trees _ (looks.2 clean (here old c.requires.ours taken)).1.1 in
+          strange_ours c.args.whose old taken c.requires.ours (inr (λ suits. other (subst (Suits c.args.whose) meta suits))));
+    }
 
-pub returns-then-is_of-clause-opens : goal.returns-then-is_of-clause-opens
-returns-then-is_of-clause-opens g c trees clean taken = c.in_ok-tables.ensures.opens trees clean (taken, c.requires.ours)
+pub returns-in-Ok-None : goal.returns-in-Ok-None
+returns-in-Ok-None g c =
+    let old = state g.S.Store c.args.conn.now in
+    let looks : Looks old (state g.S.Store c.find.new.conn) (Ok None) (AreFoundHere c.args.keep old.now.trees) = rw c.in-Ok-None.field-0-is at c.in-Ok-None.ensures.looks in
+    record {
+      opening = read_strange c.args.whose old (state g.S.Store c.find.new.conn) IsPlaced (here old c.requires.ours) looks.0 looks.1 (λ clean taken.
+          strange_ours c.args.whose old taken c.requires.ours (inl (looks.2 clean (here old c.requires.ours taken)).1));
+    }
 
-pub returns-then-is_of-clause-fresh : goal.returns-then-is_of-clause-fresh
-returns-then-is_of-clause-fresh g c trees clean taken now =
-    fresh_of c.kept.result c.in_ok-tables.tables c.args.keep (state g.S.Store c.find.new.conn) c.kept.ensures
-    (λ keep. c.in_ok-tables.ensures.kept trees clean (taken, c.requires.ours) keep now)
-
-pub returns-else-is_of-clause-stays : goal.returns-else-is_of-clause-stays
-returns-else-is_of-clause-stays g c trees clean taken now =
-    found_stays trees _ (state g.S.Store c.args.conn.now) (state g.S.Store c.find.new.conn) taken c.requires.ours (c.in_ok-tables.ensures.found trees clean (taken, c.requires.ours) now)
-
-pub returns-else-is_of-clause-strange : goal.returns-else-is_of-clause-strange
-returns-else-is_of-clause-strange g c trees clean taken is =
-    let found = c.in_ok-tables.ensures.found trees clean (taken, c.requires.ours) (c.in_ok-tables.ensures.opens trees clean (taken, c.requires.ours)) in
-    anothers_ours c.args.server c.args.primary trees (state g.S.Store c.args.conn.now) taken c.requires.ours
-    (inr (named_as c.args.server c.args.primary trees _ (state g.S.Store c.args.conn.now) (state g.S.Store c.find.new.conn) taken c.requires.ours found (subst (λ (t : Tables). Names c.args.server c.args.primary t.meta → ⊥) c.tables.view_is (c.if-is_of.ensures.other refl))))
-
-pub returns-in_err-tables-clause-survives : goal.returns-in_err-tables-clause-survives
-returns-in_err-tables-clause-survives g c =
-    looked_alone (state g.S.Store c.args.conn.now) (state g.S.Store c.find.new.conn) our_schema (IsAdopted c.args.server c.args.primary) c.requires.ours c.find.ensures.survives
-
-pub returns-then-is_of-clause-survives : goal.returns-then-is_of-clause-survives
-returns-then-is_of-clause-survives g c =
-    looked_alone (state g.S.Store c.args.conn.now) (state g.S.Store c.find.new.conn) our_schema (IsAdopted c.args.server c.args.primary) c.requires.ours c.find.ensures.survives
-
-pub returns-else-is_of-clause-survives : goal.returns-else-is_of-clause-survives
-returns-else-is_of-clause-survives g c =
-    looked_alone (state g.S.Store c.args.conn.now) (state g.S.Store c.find.new.conn) our_schema (IsAdopted c.args.server c.args.primary) c.requires.ours c.find.ensures.survives
-
-pub returns-in_err-tables-clause-failed : goal.returns-in_err-tables-clause-failed
-returns-in_err-tables-clause-failed g c trees clean taken held =
-    handed_on (λ e. e ≡ refusal.Store → StoreFailed (state g.S.Store c.args.conn.now) (state g.S.Store c.find.new.conn)) c.in_err-tables.field-0.0 c.from_residual.result
-    (c.in_err-tables.ensures.failed trees clean (taken, c.requires.ours) held) c.from_residual.ensures.1
+pub returns-in-Err : goal.returns-in-Err
+returns-in-Err g c =
+    let old = state g.S.Store c.args.conn.now in
+    let new = state g.S.Store c.find.new.conn in
+    record {
+      opening = read_failed c.args.whose old new IsPlaced (here old c.requires.ours) c.in-Err.ensures.looks.0 c.in-Err.ensures.looks.1 c.refusal_of.result c.refusal_of.ensures.cause
+          (λ taken. somebodys c.args.whose old.now.trees (inl (sound_as old our_schema taken c.requires.ours)))
+          (λ clean taken held. store_failed old new c.in-Err.error c.refusal_of.result c.refusal_of.ensures.memory (c.in-Err.ensures.cause clean (here old c.requires.ours taken) (rows_found old.now.trees held)));
+    }

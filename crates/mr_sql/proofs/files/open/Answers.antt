@@ -5,4 +5,5 @@ use Rattle.mr_sql.proofs.files.open.Goals as goal
 
 pub returns-in-Ok-clause-found : goal.returns-in-Ok-clause-found
 returns-in-Ok-clause-found g c clean =
-    subst (λ image. IsFoundIn image (file_state c.in-Ok.conn).committed.trees) c.in_ok-files.ensures.held (c.in-Ok.ensures.found clean)
+    let found = c.in-Ok.ensures.found clean in
+    (found.0, subst (λ image. IsFoundIn image (file_state c.in-Ok.conn).now.trees) c.in_ok-files.ensures.held found.1)

@@ -1,18 +1,17 @@
-use Rattle.std.proofs.Common.{◌≡◌, ◌⊎◌, subst}
-use Rattle.mr_base.specs.declared.refusals.Refusal.TheVariants as refusal
+use Rattle.std.proofs.Common.{◌≡◌, subst}
+use Rattle.sqlite.specs.Held.{state}
+use Rattle.sqlite.specs.State.{HasCleanDisk}
+use Rattle.mr_sql.specs.Opened.{IsOfOpening, RefusesToResume}
 use Rattle.mr_sql.proofs.files.take_copy.Goals as goal
 
 pub returns-in-Err-clause-cause : goal.returns-in-Err-clause-cause
 returns-in-Err-clause-cause g c r is =
     let same : c.in-Err.refusal ≡ r = cc in
-    subst (λ e. (e ≡ refusal.OutOfMemory) ⊎ ((e ≡ refusal.Store) ⊎ (e ≡ refusal.NotAReplica))) same c.in-Err.ensures.cause
+    subst IsOfOpening same c.in-Err.ensures.cause
 
-pub returns-in-Err-clause-strange : goal.returns-in-Err-clause-strange
-returns-in-Err-clause-strange g c clean is =
-    let why : c.in-Err.refusal ≡ refusal.NotAReplica = cc in
-    c.in-Err.ensures.strange clean why
-
-pub returns-in-Err-clause-failed : goal.returns-in-Err-clause-failed
-returns-in-Err-clause-failed g c clean held is =
-    let why : c.in-Err.refusal ≡ refusal.Store = cc in
-    c.in-Err.ensures.failed clean held why
+pub returns-in-Err-clause-refused : goal.returns-in-Err-clause-refused
+returns-in-Err-clause-refused g c r is =
+    let same : c.in-Err.refusal ≡ r = cc in
+    let old = state g.S.Store c.args.conn in
+    let new = state g.S.Store c.in-Err.conn in
+    subst (λ e. HasCleanDisk new → HasCleanDisk old × RefusesToResume old.now.trees e new) same c.in-Err.ensures.refused

@@ -1,5 +1,29 @@
-use Rattle.std.proofs.Common.{rules}
+use Rattle.std.proofs.Common.{List, Ok, rules, subst, sym}
+use Rattle.std.specs.Prelude.{bytes_eq, filter}
+use Rattle.std.specs.List.Sorted.{IsPermutation}
+use Rattle.sqlite_trees.specs.Tree.{Trees}
+use Rattle.sqlite.specs.Held.{state}
+use Rattle.mr_model.specs.Texts.{Text}
+use Rattle.mr_model.specs.Tables.{ErrorRow, CancelledRow, CancelRow}
+use Rattle.mr_store.specs.Answers.{IsAnswerTo}
+use Rattle.mr_store.specs.declared.questions.Answer.TheVariants as told
+use Rattle.mr_rows.specs.Database.{IsHeld, in_order, tables_in}
+use Rattle.mr_rows.specs.Form.{error_form, cancelled_form, cancel_form}
+use Rattle.mr_rows.proofs.QueryLemmas.{reads_made}
+use Rattle.mr_rows.proofs.StreamedRows.{kept_looks}
+use Rattle.mr_sql.proofs.AnswerLemmas.{errors_are, cancelled_are, cancels_are}
+use Rattle.mr_sql.proofs.FailedReads.{alone}
 use Rattle.mr_sql.proofs.questions.answer.Goals as goal
+
+-- what is shown of a room
+abbrev ErrorsOf : Text → Trees → List ErrorRow → Type 0
+ErrorsOf room trees rows = IsHeld error_form (trees 12) → IsPermutation (filter (λ (row : ErrorRow). bytes_eq row.room room) (in_order error_form (trees 12))) rows
+
+abbrev CancelledOf : Text → Trees → List CancelledRow → Type 0
+CancelledOf room trees rows = IsHeld cancelled_form (trees 16) → IsPermutation (filter (λ (row : CancelledRow). bytes_eq row.room room) (in_order cancelled_form (trees 16))) rows
+
+abbrev CancelsOf : Text → Trees → List CancelRow → Type 0
+CancelsOf room trees rows = IsHeld cancel_form (trees 18) → IsPermutation (filter (λ (row : CancelRow). bytes_eq row.room room) (in_order cancel_form (trees 18))) rows
 
 pub returns-in_err-rooms_of-in-Rooms-clause-failed : goal.returns-in_err-rooms_of-in-Rooms-clause-failed
 returns-in_err-rooms_of-in-Rooms-clause-failed g c = λ clean kept r stands. let told = c.rooms_of.ensures.failed clean kept r stands in search rules
@@ -10,11 +34,62 @@ returns-in_err-bookings_of-in-Bookings-clause-failed g c = λ clean kept r stand
 pub returns-in_err-place_of-in-PlaceOf-clause-failed : goal.returns-in_err-place_of-in-PlaceOf-clause-failed
 returns-in_err-place_of-in-PlaceOf-clause-failed g c = λ clean kept r stands. let told = c.place_of.ensures.failed clean kept r stands in search rules
 
-pub returns-in_err-errors_of-in-Errors-clause-failed : goal.returns-in_err-errors_of-in-Errors-clause-failed
-returns-in_err-errors_of-in-Errors-clause-failed g c = λ clean kept r stands. let told = c.errors_of.ensures.failed clean kept r stands in search rules
+pub returns-in_err-rows_in-in-Errors-clause-reads : goal.returns-in_err-rows_in-in-Errors-clause-reads
+returns-in_err-rows_in-in-Errors-clause-reads g c =
+    let old = state g.S.Store c.args.conn.now in
+    let read = kept_looks old (state g.S.Store c.rows_in.new.conn) c.rows_in.result (λ rows. ErrorsOf c.in-Errors.room.now old.now.trees rows.items) c.rows_in.ensures.looks in
+    (read.0, read.1, λ clean kept. (search rules, search rules))
 
-pub returns-in_err-cancelled_of-in-Cancelled-clause-failed : goal.returns-in_err-cancelled_of-in-Cancelled-clause-failed
-returns-in_err-cancelled_of-in-Cancelled-clause-failed g c = λ clean kept r stands. let told = c.cancelled_of.ensures.failed clean kept r stands in search rules
+pub returns-in_err-rows_in-in-Errors-clause-failed : goal.returns-in_err-rows_in-in-Errors-clause-failed
+returns-in_err-rows_in-in-Errors-clause-failed g c = λ clean kept r stands.
+    let told = alone (state g.S.Store c.args.conn.now) (state g.S.Store c.rows_in.new.conn) c.rows_in.result (λ clean here rows. c.rows_in.ensures.cause clean here rows.0.errorlog) clean kept r stands in
+    search rules
 
-pub returns-in_err-cancels_of-in-Cancels-clause-failed : goal.returns-in_err-cancels_of-in-Cancels-clause-failed
-returns-in_err-cancels_of-in-Cancels-clause-failed g c = λ clean kept r stands. let told = c.cancels_of.ensures.failed clean kept r stands in search rules
+pub returns-in_ok-rows_in-in-Errors-clause-reads : goal.returns-in_ok-rows_in-in-Errors-clause-reads
+returns-in_ok-rows_in-in-Errors-clause-reads g c =
+    let old = state g.S.Store c.args.conn.now in
+    let new = state g.S.Store c.rows_in.new.conn in
+    let rows = c.in_ok-rows_in-in-Errors.field-0 in
+    reads_made old new rows (λ rows. ErrorsOf c.in-Errors.room.now old.now.trees rows.items) (Ok (told.Errors rows)) (IsAnswerTo c.args.question.now (tables_in old.now.trees))
+    (λ kept read. subst (λ q. IsAnswerTo q (tables_in old.now.trees) (told.Errors rows)) (sym c.in-Errors.is) (errors_are c.in-Errors.room.now old.now.trees rows.items (read kept.ours.held.errorlog)))
+    (kept_looks old new (Ok rows) (λ rows. ErrorsOf c.in-Errors.room.now old.now.trees rows.items) c.in_ok-rows_in-in-Errors.ensures.looks)
+
+pub returns-in_err-rows_in-in-Cancelled-clause-reads : goal.returns-in_err-rows_in-in-Cancelled-clause-reads
+returns-in_err-rows_in-in-Cancelled-clause-reads g c =
+    let old = state g.S.Store c.args.conn.now in
+    let read = kept_looks old (state g.S.Store c.rows_in-in-Cancelled.new.conn) c.rows_in-in-Cancelled.result (λ rows. CancelledOf c.in-Cancelled.room.now old.now.trees rows.items) c.rows_in-in-Cancelled.ensures.looks in
+    (read.0, read.1, λ clean kept. (search rules, search rules))
+
+pub returns-in_err-rows_in-in-Cancelled-clause-failed : goal.returns-in_err-rows_in-in-Cancelled-clause-failed
+returns-in_err-rows_in-in-Cancelled-clause-failed g c = λ clean kept r stands.
+    let told = alone (state g.S.Store c.args.conn.now) (state g.S.Store c.rows_in-in-Cancelled.new.conn) c.rows_in-in-Cancelled.result (λ clean here rows. c.rows_in-in-Cancelled.ensures.cause clean here rows.0.cancelled) clean kept r stands in
+    search rules
+
+pub returns-in_ok-rows_in-in-Cancelled-clause-reads : goal.returns-in_ok-rows_in-in-Cancelled-clause-reads
+returns-in_ok-rows_in-in-Cancelled-clause-reads g c =
+    let old = state g.S.Store c.args.conn.now in
+    let new = state g.S.Store c.rows_in-in-Cancelled.new.conn in
+    let rows = c.in_ok-rows_in-in-Cancelled.field-0 in
+    reads_made old new rows (λ rows. CancelledOf c.in-Cancelled.room.now old.now.trees rows.items) (Ok (told.Cancelled rows)) (IsAnswerTo c.args.question.now (tables_in old.now.trees))
+    (λ kept read. subst (λ q. IsAnswerTo q (tables_in old.now.trees) (told.Cancelled rows)) (sym c.in-Cancelled.is) (cancelled_are c.in-Cancelled.room.now old.now.trees rows.items (read kept.ours.held.cancelled)))
+    (kept_looks old new (Ok rows) (λ rows. CancelledOf c.in-Cancelled.room.now old.now.trees rows.items) c.in_ok-rows_in-in-Cancelled.ensures.looks)
+
+pub returns-in_err-rows_in-in-Cancels-clause-reads : goal.returns-in_err-rows_in-in-Cancels-clause-reads
+returns-in_err-rows_in-in-Cancels-clause-reads g c =
+    let old = state g.S.Store c.args.conn.now in
+    let read = kept_looks old (state g.S.Store c.rows_in-in-Cancels.new.conn) c.rows_in-in-Cancels.result (λ rows. CancelsOf c.in-Cancels.room.now old.now.trees rows.items) c.rows_in-in-Cancels.ensures.looks in
+    (read.0, read.1, λ clean kept. (search rules, search rules))
+
+pub returns-in_err-rows_in-in-Cancels-clause-failed : goal.returns-in_err-rows_in-in-Cancels-clause-failed
+returns-in_err-rows_in-in-Cancels-clause-failed g c = λ clean kept r stands.
+    let told = alone (state g.S.Store c.args.conn.now) (state g.S.Store c.rows_in-in-Cancels.new.conn) c.rows_in-in-Cancels.result (λ clean here rows. c.rows_in-in-Cancels.ensures.cause clean here rows.0.cancels) clean kept r stands in
+    search rules
+
+pub returns-in_ok-rows_in-in-Cancels-clause-reads : goal.returns-in_ok-rows_in-in-Cancels-clause-reads
+returns-in_ok-rows_in-in-Cancels-clause-reads g c =
+    let old = state g.S.Store c.args.conn.now in
+    let new = state g.S.Store c.rows_in-in-Cancels.new.conn in
+    let rows = c.in_ok-rows_in-in-Cancels.field-0 in
+    reads_made old new rows (λ rows. CancelsOf c.in-Cancels.room.now old.now.trees rows.items) (Ok (told.Cancels rows)) (IsAnswerTo c.args.question.now (tables_in old.now.trees))
+    (λ kept read. subst (λ q. IsAnswerTo q (tables_in old.now.trees) (told.Cancels rows)) (sym c.in-Cancels.is) (cancels_are c.in-Cancels.room.now old.now.trees rows.items (read kept.ours.held.cancels)))
+    (kept_looks old new (Ok rows) (λ rows. CancelsOf c.in-Cancels.room.now old.now.trees rows.items) c.in_ok-rows_in-in-Cancels.ensures.looks)

@@ -10,18 +10,18 @@ use Rattle.mr_sql.proofs.NumberLemmas.{other_number}
 use Rattle.mr_sql.proofs.schema_number.has_other_number.Goals as goal
 
 pub returns-in_err-rows-clause-looks : goal.returns-in_err-rows-clause-looks
-returns-in_err-rows-clause-looks g c under two = let read = c.meta_rows.ensures.looks under two in (read.0, read.1, λ clean here. (search rules, search rules))
+returns-in_err-rows-clause-looks g c under two = let read = c.select_all_meta.ensures.looks under two in (read.0, read.1, λ clean here. (search rules, search rules))
 
 pub returns-clause-looks : goal.returns-clause-looks
 returns-clause-looks g c under two =
     let old = state g.S.Store c.args.conn.now in
     let shown = c.in_ok-rows.rows.items in
     let same : c.deref.result.now ≡ shown = search rules in
-    made_where (IsPlacedIn under) old (state g.S.Store c.meta_rows.new.conn) c.in_ok-rows.rows (λ rows. IsPermutation (map (columns_from 1 7) (old.now.trees 0)) rows.items) c.is_other_alone.result _
+    made_where (IsPlacedIn under) old (state g.S.Store c.select_all_meta.new.conn) c.in_ok-rows.rows (λ rows. IsPermutation (map (columns_from 1 7) (old.now.trees 0)) rows.items) c.is_other_alone.result _
     (λ here read. told_so c.is_other_alone.result _ _ (λ other alone is. other_number c.args.number old.now.trees shown read (alone is)) (rw same at c.is_other_alone.ensures.other)) (c.in_ok-rows.ensures.looks under two)
 
 pub returns-in_err-rows-clause-cause : goal.returns-in_err-rows-clause-cause
-returns-in_err-rows-clause-cause g c under two = λ clean here rows. let told = c.meta_rows.ensures.cause under two clean here rows in search rules
+returns-in_err-rows-clause-cause g c under two = λ clean here rows. let told = c.select_all_meta.ensures.cause under two clean here rows in search rules
 
 pub returns-clause-cause : goal.returns-clause-cause
-returns-clause-cause g c under two = only_memory under (λ _. ⊤) (state g.S.Store c.args.conn.now) (state g.S.Store c.meta_rows.new.conn) c.is_other_alone.result c.is_other_alone.ensures.memory
+returns-clause-cause g c under two = only_memory under (λ _. ⊤) (state g.S.Store c.args.conn.now) (state g.S.Store c.select_all_meta.new.conn) c.is_other_alone.result c.is_other_alone.ensures.memory

@@ -1,22 +1,10 @@
-use Rattle.std.proofs.Common.{sym, subst}
-use Rattle.sqlite.specs.Effect.{Database}
-use Rattle.mr_sql.specs.Found.{IsAdopted}
-use Rattle.mr_sql.proofs.TakenLemmas.{told_of_two, told_of_three}
+use Rattle.sqlite.specs.Files.{file_state}
+use Rattle.mr_sql.proofs.OpeningLaws.{causes_of, keepers_left}
 use Rattle.mr_sql.proofs.files.SqlKeeper+FileStore+SparingFile+Unknown.init_file.Goals as goal
 
 pub returns-in-Ok-clause-opened : goal.returns-in-Ok-clause-opened
 returns-in-Ok-clause-opened c =
-    told_of_three c.agreeing.result _ _ _ _
-    (λ k clean was_open same cleaned now.
-    let found = c.in-Ok.ensures.opened (clean cleaned) (was_open cleaned now) in
-    (found.0, found.1, subst (λ (d : Database). IsAdopted c.args.server c.args.primary found.0 d.trees) (sym (same cleaned now)) found.2))
-    c.agreeing.ensures.clean c.agreeing.ensures.was_open c.agreeing.ensures.same
+    keepers_left _ (file_state c.in-Ok.keeper.0) (λ k. file_state k.0) c.in-Ok.keeper.1 (λ k. k.1) c.agreeing.result c.in-Ok.ensures.opened c.agreeing.ensures.same c.agreeing.ensures.counted
 
-pub returns-in-Ok-clause-opens : goal.returns-in-Ok-clause-opens
-returns-in-Ok-clause-opens c =
-    told_of_two c.agreeing.result _ _ _ (λ k clean opens cleaned. opens cleaned (c.in-Ok.ensures.opens (clean cleaned))) c.agreeing.ensures.clean c.agreeing.ensures.opens
-
-pub returns-in-Ok-clause-settled : goal.returns-in-Ok-clause-settled
-returns-in-Ok-clause-settled c =
-    told_of_three c.agreeing.result _ _ _ _ (λ k clean was_open settled cleaned now. settled cleaned now (c.in-Ok.ensures.settled (clean cleaned) (was_open cleaned now)))
-    c.agreeing.ensures.clean c.agreeing.ensures.was_open c.agreeing.ensures.settled
+pub returns-in-Ok-clause-cause : goal.returns-in-Ok-clause-cause
+returns-in-Ok-clause-cause c = causes_of c.agreeing.result c.agreeing.ensures.cause
