@@ -7,7 +7,7 @@ use Rattle.mr_model.specs.View.{Question, view_of, answer}
 use Rattle.mr_model.specs.Step.{Ask, step, IsOfMachine}
 use Rattle.mr_model.specs.Tables.{Tables}
 use Rattle.mr_service.specs.Replied.{RepliesTo}
-use Rattle.mr_say.specs.CommandOutput.{PrintsReply}
+use Rattle.mr_words.specs.CommandOutput.{PrintsReply}
 use Rattle.mr.specs.CommandEffects.{TellsAnswer}
 
 reply_of_question : (a : Replica) (room : Text) (question : Question) (reply : Reply) → IsOfMachine reply ⊎ (reply ≡ (step a (Ask room question)).reply)

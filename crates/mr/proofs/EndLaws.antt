@@ -12,7 +12,7 @@ use Rattle.mr_base.specs.RefusalViews.{refusal_of}
 use Rattle.mr_base.specs.declared.refusals.Refusal.{Refusal}
 use Rattle.mr_base.specs.declared.refusals.Refusal.TheVariants as refusal
 use Rattle.mr_store.specs.declared.keeper.Keeper.{Ghosts}
-use Rattle.mr_say.specs.CommandOutput.{no_memory_line, status_of, PrintsReply}
+use Rattle.mr_words.specs.CommandOutput.{no_memory_line, status_of, PrintsReply}
 use Rattle.mr_words.specs.CommandTable.{Invoked, Init, Ask, Export, Import, Rehearse, Serve, Exchange, Bridge}
 use Rattle.mr_words.specs.InvocationRead.{asked_of}
 use Rattle.mr_words.specs.declared.invocations.Invocation.TheVariants as invocation

@@ -10,7 +10,7 @@ use Rattle.mr_model.specs.Tables.{Tables, Stands}
 use Rattle.mr_store.specs.declared.keeper.Keeper.{Ghosts}
 use Rattle.mr_service.specs.Replied.{RepliesTo}
 use Rattle.mr_service.specs.Served.{IsServed}
-use Rattle.mr_say.specs.CommandOutput.{no_memory_line, status_of, PrintsReply}
+use Rattle.mr_words.specs.CommandOutput.{no_memory_line, status_of, PrintsReply}
 
 -- ---- one command
 

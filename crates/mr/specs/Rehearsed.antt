@@ -5,7 +5,7 @@ use Rattle.mr_model.specs.Texts.{Text, words, lines_text}
 use Rattle.mr_model.specs.Replies.{reply_text}
 use Rattle.mr_model.specs.World.{World, empty_world, Step, StepReply, Added, There, NoReplica, NoBatch, Made, Said}
 use Rattle.mr_model.specs.Honest.{IsWorldRun}
-use Rattle.mr_say.specs.CommandOutput.{no_memory_line}
+use Rattle.mr_words.specs.CommandOutput.{no_memory_line}
 use Rattle.mr.specs.RehearsalScript.{ReadsAsScript}
 
 -- the text of a reply

@@ -13,10 +13,9 @@ ghost use Rattle.mr.specs.Tasks.{IsAnswered, IsCommandFor, IsCommandWith, TellsT
 
 use crate::files::{FileFault, GREATEST_FILE, HostFiles, MakesFiles, say_fault};
 use crate::tasks::{command_for, reader_for};
-use mr_say::{DONE, NO_MEMORY, REFUSED, say, say_reply};
 use mr_service::{Command, Reply, Service, reply_text};
 use mr_store::Keeper;
-use mr_words::Task;
+use mr_words::{DONE, NO_MEMORY, REFUSED, Task, say, say_reply};
 use std::alloc::Global;
 use std::io::{Read, Write};
 

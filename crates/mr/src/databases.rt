@@ -3,18 +3,17 @@
 ghost use Rattle.std.specs.Prelude.{◌≡◌, ◌⊎◌};
 ghost use Rattle.std.specs.Io.KnownBytes.{Appends};
 ghost use Rattle.mr_model.specs.Step.{Command};
-ghost use Rattle.mr_say.specs.CommandOutput.{ok_line};
+ghost use Rattle.mr_words.specs.CommandOutput.{ok_line};
 ghost use Rattle.mr.specs.Tasks.{EndsAsking, EndsAskingEither, EndsInit, IsAnswered, IsCommandFor, OnlyReads, TellsTo, file_for};
 ghost use Rattle.mr.specs.CommandEffects.{TellsFault};
 
 use crate::asking::perform;
 use crate::tasks::{needs_rows, only_reads};
 use mr_base::ServerId;
-use mr_say::{DONE, say, say_refusal};
 use mr_service::Service;
 use mr_sql::{CopyKeeper, FileKeeper, NotCopied, SqlKeeper};
 use mr_store::Keeper;
-use mr_words::Task;
+use mr_words::{DONE, Task, say, say_refusal};
 use std::alloc::Global;
 use std::io::Write;
 

@@ -6,7 +6,7 @@ ghost use Rattle.std.specs.declared.io.ErrorKind.TheVariants.{OutOfMemory};
 ghost use Rattle.mr.specs.Rehearsed.{IsKnownInput};
 ghost use Rattle.mr.specs.CommandEffects.{TellsFault, greatest_file};
 
-use mr_say::{FAULT, NO_MEMORY, REFUSED, say};
+use mr_words::{FAULT, NO_MEMORY, REFUSED, say};
 use std::alloc::Global;
 use std::fs::File;
 use std::io::{self, ErrorKind, Read, Write};

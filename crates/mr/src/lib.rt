@@ -1,5 +1,5 @@
 //! Command lines and rehearsal scripts of the program `rooms`: words and bytes in, lines and a status out.
-//! It stands on `mr_words`, `mr_say`, `mr_net`, `mr_sql` and `mr_service`; the program stands above. README.md has lines of use, and what is proved.
+//! It stands on `mr_words`, `mr_net`, `mr_sql` and `mr_service`; the program stands above. README.md has lines of use, and what is proved.
 #![tactic(auto)]
 
 mod asking;

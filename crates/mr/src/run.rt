@@ -3,14 +3,14 @@
 ghost use Rattle.std.specs.Prelude.{◌≡◌, ◌⊎◌, ℕ, List, ◌++◌, map, take, flat_map};
 ghost use Rattle.std.specs.Io.KnownBytes.{Appends};
 ghost use Rattle.mr_service.specs.Stepping.{step_of, step_reply_of};
-ghost use Rattle.mr_say.specs.CommandOutput.{no_memory_line};
+ghost use Rattle.mr_words.specs.CommandOutput.{no_memory_line};
 ghost use Rattle.mr.specs.Rehearsed.{step_reply_text, Prints, Rehearses, StopsRehearsing, StopsIn, IsKnownInput, bad_line};
 
 use crate::files::{read_limited, say_fault};
 use crate::rehearsal::step_reply_text;
 use crate::script::{ScriptFault, read_script};
-use mr_say::{DONE, FAULT, NO_MEMORY, REFUSED, say};
 use mr_service::{Step, StepReply, World};
+use mr_words::{DONE, FAULT, NO_MEMORY, REFUSED, say};
 use std::alloc::Global;
 use std::io::{Read, Write};
 

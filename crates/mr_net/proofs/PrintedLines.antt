@@ -3,7 +3,7 @@ use Rattle.std.proofs.Common.{◌≡◌, ◌≢◌, refl, sym, ◌∙◌, subst,
 use Rattle.std.specs.Prelude.{Result, IfOk, IfErr}
 use Rattle.std.specs.Io.KnownBytes.{Appends}
 use Rattle.mr_model.specs.Texts.{Text}
-use Rattle.mr_say.specs.CommandOutput.{no_memory_line}
+use Rattle.mr_words.specs.CommandOutput.{no_memory_line}
 use Rattle.mr_net.specs.Printed.{StopsWithText}
 
 -- a text of that kind is printed, unless the writer fails

@@ -6,7 +6,7 @@ use Rattle.std.proofs.KnownBytes.{Appends-trans}
 use Rattle.std.proofs.lemmas.List.{length_push}
 use Rattle.mr_model.specs.Texts.{Text, line}
 use Rattle.mr_store.specs.declared.keeper.Keeper.{Ghosts}
-use Rattle.mr_say.specs.CommandOutput.{no_memory_line}
+use Rattle.mr_words.specs.CommandOutput.{no_memory_line}
 use Rattle.mr_net.specs.Connections.{IsConnection, AreConnections, ServesAt, TellsServed}
 use Rattle.mr_net.specs.Printed.{StopsWithText, connection_text, connection_lines, serving_line, EndsServing}
 

@@ -2,7 +2,7 @@
 use Rattle.std.specs.Prelude.{◌≡◌, ◌⊎◌, ℕ, Option}
 use Rattle.mr_model.specs.Texts.{Text}
 use Rattle.mr_store.specs.declared.keeper.Keeper.{Ghosts}
-use Rattle.mr_say.specs.CommandOutput.{no_memory_line}
+use Rattle.mr_words.specs.CommandOutput.{no_memory_line}
 use Rattle.mr_net.specs.Printed.{StopsWithText, TellsBoth}
 use Rattle.mr_net.specs.ExchangeRounds.{RunsBridged}
 

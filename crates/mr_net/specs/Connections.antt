@@ -8,7 +8,7 @@ use Rattle.mr_http.specs.declared.faults.WebFault.{WebFault}
 use Rattle.mr_web.specs.RequestServed.{IsRequest}
 use Rattle.mr_web.specs.Views.{EndsServed}
 use Rattle.mr_web.specs.RepliesWritten.{Writes}
-use Rattle.mr_say.specs.CommandOutput.{no_memory_line}
+use Rattle.mr_words.specs.CommandOutput.{no_memory_line}
 use Rattle.mr_net.specs.Printed.{StopsWithText, connection_lines, serving_line}
 
 -- the request that is read here was served, its reply was written there, and this is its status

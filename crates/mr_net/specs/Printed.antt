@@ -6,7 +6,7 @@ use Rattle.mr_model.specs.Refusals.{Refusal, refusal_text}
 use Rattle.mr_base.specs.RefusalViews.{refusal_of}
 use Rattle.mr_http.specs.declared.faults.WebFault.{WebFault}
 use Rattle.mr_http.specs.declared.faults.WebFault.TheVariants as fault
-use Rattle.mr_say.specs.CommandOutput.{no_memory_line, TellsRefusal}
+use Rattle.mr_words.specs.CommandOutput.{no_memory_line, TellsRefusal}
 use Rattle.mr_net.specs.declared.ways.Way.{Way}
 use Rattle.mr_net.specs.declared.ways.Way.TheVariants.{Pull, Push}
 use Rattle.mr_net.specs.declared.ways.Round.{Round}

@@ -1,5 +1,5 @@
 //! Commands over sockets: `serve`, `exchange` and `bridge`. What a socket gives and takes is tested alone.
-//! It stands on `mr_web`, `mr_peer`, `mr_sql`, `mr_words` and `mr_say`; `mr` stands above. README.md says what is proved.
+//! It stands on `mr_web`, `mr_peer`, `mr_sql` and `mr_words`; `mr` stands above. README.md says what is proved.
 #![tactic(auto)]
 
 mod bridging;

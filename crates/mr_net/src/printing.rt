@@ -4,12 +4,12 @@ ghost use Rattle.std.specs.Prelude.{◌≡◌, ◌⊎◌, [], ◌∷◌, IfOk, c
 ghost use Rattle.std.specs.String.{string_bytes};
 ghost use Rattle.std.specs.Io.KnownBytes.{Appends};
 ghost use Rattle.mr_model.specs.Texts.{line, words};
-ghost use Rattle.mr_say.specs.CommandOutput.{no_memory_line};
+ghost use Rattle.mr_words.specs.CommandOutput.{no_memory_line};
 ghost use Rattle.mr_net.specs.Printed.{way_line, peer_line, IsFaultLine, StopsWithText, TellsBoth, TellsWay};
 
 use crate::ways::{Peer, Taken, Way, all_rounds};
 use mr_http::WebFault;
-use mr_say::{DONE, FAULT, NO_MEMORY, REFUSED, say, say_made, say_refusal};
+use mr_words::{DONE, FAULT, NO_MEMORY, REFUSED, say, say_made, say_refusal};
 use std::alloc::{AllocError, Global};
 use std::io::Write;
 

@@ -31,4 +31,6 @@ mod text_tests;
 #[cfg(test)]
 mod uses;
 #[cfg(test)]
+mod without_desk;
+#[cfg(test)]
 mod without_memory_tests;

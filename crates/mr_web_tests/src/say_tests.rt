@@ -3,8 +3,8 @@
 use crate::connections::writer_of;
 use crate::same::same;
 use mr_base::Refusal;
-use mr_say::{BAD_WORDS, DONE, FAULT, say, say_made, say_refusal, say_reply, say_text};
 use mr_service::Reply;
+use mr_words::{BAD_WORDS, DONE, FAULT, say, say_made, say_refusal, say_reply, say_text};
 use std::alloc::{AllocError, Global};
 
 /// What lines of each kind answer if they are taken.

@@ -3,9 +3,10 @@
 use crate::asking_tests::{give, service};
 use crate::connections::{Drip, check_front, writer_of};
 use crate::same::same;
+use crate::without_desk::WithoutDesk;
 use mr_http::WebFault;
 use mr_service::{Command, Local, Service};
-use mr_store::{Fault, Keeper, ListKeeper, Tripped, WithoutDesk};
+use mr_store::{Fault, Keeper, ListKeeper, Tripped};
 use mr_web::serve_one;
 use std::alloc::Global;
 use std::fmt::Debug;

@@ -11,11 +11,11 @@ returns-in-Ok g c =
         c.in-Ok.keeper,
         record {
           opened = record {
-            uncounted = c.in-Ok.ensures.uncounted;
-            opens = c.in-Ok.ensures.opens;
-            settled = λ clean. c.in-Ok.ensures.settled clean (c.in-Ok.ensures.opens clean);
+            uncounted = c.in-Ok.ensures.opened.uncounted;
+            opens = c.in-Ok.ensures.opened.opens;
+            settled = c.in-Ok.ensures.opened.settled;
           };
-          tables = λ clean. let adopted = c.in-Ok.ensures.opened clean (c.in-Ok.ensures.opens clean) in adopted_tables _ _ adopted.0 _ adopted.2;
+          tables = λ clean. let adopted = c.in-Ok.ensures.opened.opened clean in adopted_tables _ _ adopted.0 _ adopted.2;
         },
         told.1,
       )

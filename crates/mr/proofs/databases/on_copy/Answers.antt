@@ -8,9 +8,9 @@ returns-in-Ok g c =
     elim c.on_keeper-copy.ensures [
       | inl answered ↦ inr (copy_ends _ (IsCommandFor c.args.task) (TellsTo (file_for c.args.task)) c.in-Ok.keeper c.on_keeper-copy.result.0 _ _ _ c.requires.reads
           (record {
-            uncounted = c.in-Ok.ensures.uncounted;
-            opens = c.in-Ok.ensures.opens;
-            settled = λ clean. c.in-Ok.ensures.settled clean (c.in-Ok.ensures.opens clean);
+            uncounted = c.in-Ok.ensures.opened.uncounted;
+            opens = c.in-Ok.ensures.opened.opens;
+            settled = c.in-Ok.ensures.opened.settled;
           })
           answered)
       | inr unasked ↦ inl (inr (inr unasked.1))

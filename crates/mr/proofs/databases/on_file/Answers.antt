@@ -9,9 +9,9 @@ returns-in-Ok g c =
         c.in-Ok.keeper,
         c.on_keeper-keeper.result.0,
         record {
-          uncounted = c.in-Ok.ensures.uncounted;
-          opens = c.in-Ok.ensures.opens;
-          settled = λ clean. c.in-Ok.ensures.settled clean (c.in-Ok.ensures.opens clean);
+          uncounted = c.in-Ok.ensures.opened.uncounted;
+          opens = c.in-Ok.ensures.opened.opens;
+          settled = c.in-Ok.ensures.opened.settled;
         },
         answered,
       )

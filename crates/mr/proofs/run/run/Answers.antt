@@ -3,7 +3,7 @@ use Rattle.std.specs.Io.KnownBytes.{Appends}
 use Rattle.mr_model.specs.World.{empty_world}
 use Rattle.mr_service.specs.declared.steps.StepReply.{StepReply}
 use Rattle.mr_service.specs.Stepping.{step_reply_of}
-use Rattle.mr_say.specs.CommandOutput.{no_memory_line}
+use Rattle.mr_words.specs.CommandOutput.{no_memory_line}
 use Rattle.mr.specs.Rehearsed.{step_reply_text}
 use Rattle.mr.proofs.run.run.Goals as goal
 

@@ -1,6 +1,6 @@
 use Rattle.std.proofs.Common.{◌≡◌}
 use Rattle.mr_model.specs.Texts.{line}
-use Rattle.mr_say.specs.CommandOutput.{no_memory_line}
+use Rattle.mr_words.specs.CommandOutput.{no_memory_line}
 use Rattle.mr_net.specs.Printed.{connection_text}
 use Rattle.mr_net.proofs.PrintedLines.{was_told}
 use Rattle.mr_net.proofs.ServingLaws.{one_more, stopped}

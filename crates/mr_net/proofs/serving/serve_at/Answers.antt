@@ -1,5 +1,5 @@
 use Rattle.std.proofs.Common.{◌≡◌}
-use Rattle.mr_say.specs.CommandOutput.{no_memory_line}
+use Rattle.mr_words.specs.CommandOutput.{no_memory_line}
 use Rattle.mr_net.specs.Printed.{serving_line}
 use Rattle.mr_net.proofs.PrintedLines.{was_told}
 use Rattle.mr_net.proofs.ServingLaws.{served_behind}

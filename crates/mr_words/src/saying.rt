@@ -5,7 +5,7 @@ ghost use Rattle.mr_base.specs.RefusalViews.{refusal_of};
 ghost use Rattle.mr_service.specs.Asked.{reply_of};
 ghost use Rattle.mr_model.specs.Refusals.{refusal_text};
 ghost use Rattle.mr_model.specs.Texts.{line};
-ghost use Rattle.mr_say.specs.CommandOutput.{no_memory_line, status_of, PrintsReply};
+ghost use Rattle.mr_words.specs.CommandOutput.{no_memory_line, status_of, PrintsReply};
 
 use mr_base::Refusal;
 use mr_service::{Reply, refusal_text, reply_text};

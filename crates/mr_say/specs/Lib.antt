@@ -1,2 +1,0 @@
--- A reader of the contracts trusts all of these.
-pub mod CommandOutput
