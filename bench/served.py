@@ -5,7 +5,8 @@
 
 makes in FOLDER the database of a replica with so many bookings, which another one made, in so many rooms (5), serves it, and asks on
 loopback one request after the other, so many of each kind (200), each over a connection of its own: a sheet, the outcome of a request, the
-position, a pull of 64 lines, a submission, and a push of 64 writes. It prints of each kind the middle and the 99th of a hundred, by the clock and
+position, a pull of 64 lines, a submission, a cancel, a push of 64 writes that come last, and of the push of one write that comes before nearly all
+others of its room a tenth as many. It prints of each kind the middle and the 99th of a hundred, by the clock and
 of the server's processor time, in milliseconds; what the first request took; and the memory of the process. Where a kind adds bookings, another
 copy is served before there are a tenth more. `speed.py` prints the same of several sizes.
 """
@@ -20,6 +21,8 @@ sys.path.insert(0, os.path.join(os.path.dirname(os.path.abspath(__file__)), '..'
 from calls import Served, done
 
 LENGTH, A_DAY, LINES = 15, 96, 64
+# a batch of so many lines is below the sixteen MiB that a file may have
+A_FILE = 100_000
 
 
 def day_of(number):
@@ -50,7 +53,9 @@ def made(program, folder, count, rooms):
     file = os.path.join(folder, f'{count}-{rooms}.db')
     if not os.path.exists(file):
         done(program, 'init', file + '.new', 1, 1)
-        done(program, 'import', file + '.new', write_batch(os.path.join(folder, 'batch'), 1, count, rooms))
+        for first in range(1, count + 1, A_FILE):
+            batch = write_batch(os.path.join(folder, 'batch'), first, min(first + A_FILE - 1, count), rooms)
+            done(program, 'import', file + '.new', batch)
         os.rename(file + '.new', file)
     return file
 
@@ -82,16 +87,29 @@ def submission(number, rooms):
     return request('/submit', f'{{"room":"room-{room}","day":"{day_of(day)}","start":"{time_of(A_DAY - 1)}","length":{LENGTH},"title":"Late"}}')
 
 
+def cancel(number, count, rooms):
+    """A cancel of one of the bookings, each time of another one."""
+    n = number * 37 % count + 1
+    return request('/cancel', f'{{"id":"2-{n}","room":"room-{n % rooms}"}}')
+
+
+def early(number):
+    """A batch of one write of a third replica, for the first slot of a room, which is taken: it comes before nearly all others."""
+    return f'mr2 3 1\nW 3 {number + 1} {number + 1} room-0 {LENGTH} {day_of(0)} {time_of(0)} 0 Early\nE\n'
+
+
 def kinds(count, rooms):
-    """How each kind of request is made from its number, and how many bookings it adds."""
+    """How each kind of request is made from its number, how many bookings it adds, and how rarely it is asked."""
     days = max(1, count // rooms // (A_DAY - 1))
     return {
-        'sheet': (lambda i: request(f'/rooms/room-{i % rooms}/days/{day_of(i * 7 % days)}'), 0),
-        'outcome': (lambda i: request(f'/rooms/room-{(i * 37 % count + 1) % rooms}/requests/2-{i * 37 % count + 1}'), 0),
-        'position': (lambda i: request('/position'), 0),
-        f'pull of {LINES} lines': (lambda i: request('/pull', position(count - LINES)), 0),
-        'submission': (lambda i: submission(i, rooms), 1),
-        f'push of {LINES} writes': (lambda i: request('/push', batch_of(count + LINES * i + 1, count + LINES * (i + 1), rooms)), LINES),
+        'sheet': (lambda i: request(f'/rooms/room-{i % rooms}/days/{day_of(i * 7 % days)}'), 0, 1),
+        'outcome': (lambda i: request(f'/rooms/room-{(i * 37 % count + 1) % rooms}/requests/2-{i * 37 % count + 1}'), 0, 1),
+        'position': (lambda i: request('/position'), 0, 1),
+        f'pull of {LINES} lines': (lambda i: request('/pull', position(count - LINES)), 0, 1),
+        'submission': (lambda i: submission(i, rooms), 1, 1),
+        'cancel': (lambda i: cancel(i, count, rooms), 1, 1),
+        f'push of {LINES} writes': (lambda i: request('/push', batch_of(count + LINES * i + 1, count + LINES * (i + 1), rooms)), LINES, 1),
+        'push of an early write': (lambda i: request('/push', early(i)), 1, 10),
     }
 
 
@@ -144,9 +162,9 @@ def measured(program, folder, count, rooms, requests):
     replica = Replica(program, folder, made(program, folder, count, rooms), count, rooms)
     sizes = [replica.idle, memory(replica.served.process)[0]]
     took = {}
-    for name, (make, adds) in kinds(count, rooms).items():
+    for name, (make, adds, rarely) in kinds(count, rooms).items():
         replica.next = 0
-        took[name] = [replica.asked(make, adds) for _ in range(requests)]
+        took[name] = [replica.asked(make, adds) for _ in range(max(1, requests // rarely))]
         if adds:
             sizes.append(memory(replica.served.process)[1])
             replica.begin()
@@ -166,7 +184,7 @@ def main(program, folder, count, rooms=5, requests=200):
     print(f'{count} bookings in {rooms} rooms; first request {first[0]:.2f} ms, {first[1]:.2f} ms of processor time')
     for name, pairs in took.items():
         (clock, most), (spent, much) = (middle_and_most(values) for values in zip(*pairs))
-        print(f'{name:20} {clock:8.2f} {most:8.2f} ms, of processor time {spent:7.2f} {much:7.2f} ms')
+        print(f'{name:22} {clock:8.2f} {most:8.2f} ms, of processor time {spent:7.2f} {much:7.2f} ms')
     print('MiB before the first request, behind it, and at most after submissions and after pushes: ' + ', '.join(f'{size:.1f}' for size in sizes))
 
 
