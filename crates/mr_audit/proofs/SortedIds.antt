@@ -1,13 +1,15 @@
 -- What a binary search for an id finds in rows that stand in the order of their ids.
-use Rattle.std.proofs.Common.{◌≡◌, refl, sym, ap, ◌∙◌, subst, ℕ, zero, suc, ◌+◌, ◌<◌, ◌≤◌, Bool, true, false, List, [], ◌∷◌, length, map, inl, inr, arith, slice_index_or, ◌⊎◌}
+use Rattle.std.proofs.Common.{◌≡◌, refl, sym, ap, ◌∙◌, subst, ℕ, zero, suc, ◌<◌, ◌≤◌, Bool, true, false, not, List, [], ◌∷◌, length, map, inl, inr, arith, slice_index_or, ◌⊎◌}
 use Rattle.std.proofs.lemmas.Bool.{true≢false, cases_order}
+use Rattle.std.proofs.lemmas.Bool.Decides.{nat_tests}
 use Rattle.std.specs.List.Sorted.{IsPartitionedBy, IsPartitionPoint}
 use Rattle.mr_model.specs.Dropped.{Has}
 use Rattle.mr_model.specs.Writes.{Id, same_id}
 use Rattle.mr_model.specs.Replica.{is_among}
-use Rattle.mr_model.proofs.Members.{all_has, has_all, has_among, has_map, not_among, map_has}
+use Rattle.mr_model.proofs.Members.{all_has, has_all, has_among, has_map, not_among, map_has, same_id-true}
 use Rattle.mr_tables.specs.Change.{id_before}
 use Rattle.mr_model.specs.Changes.{IdBefore, RiseById}
+use Rattle.mr_agree.specs.Agreeing.{next_id}
 use Rattle.mr_tables.specs.TableOrders.{InOrder, id_order, id_before-true, id_before_from}
 
 -- ---- rows at places
@@ -88,6 +90,30 @@ module _ {R : Type 0} (key : R → Id) (id : Id) where
             side (inl p) = here e (ap (λ j. key (slice_index_or rows j e)) (sym p) ∙ same)
             side (inr (inl before)) = front k e l before same
             side (inr (inr after)) = behind k e l after same
+
+    -- so whether the row at the place has the id tells whether one has it
+    pub there_alike : (d : R) → at < length rows → same_id (key (slice_index_or rows at d)) id ≡ is_among id (map key rows)
+    there_alike d l = go (same_id (key (slice_index_or rows at d)) id) refl
+      where
+        go : (b : Bool) → same_id (key (slice_index_or rows at d)) id ≡ b → same_id (key (slice_index_or rows at d)) id ≡ is_among id (map key rows)
+        go true e = e ∙ sym (keyed (slice_index_or rows at d) rows (index_has rows at d l) (same_id-true (key (slice_index_or rows at d)) id e))
+        go false e = e ∙ sym (other_there d l e)
+
+-- an id is before the next one of a server unless it is behind this one
+pub before_next : (i id : Id) → id_before i (next_id id) ≡ not (id_before id i)
+before_next i id = grind (arith, nat_tests)
+
+-- so rows that are not behind an id stand in front of those that are, and the place between them is one for the next id
+module _ {R : Type 0} (key : R → Id) (id : Id) (rows : List R) where
+  pub parted_behind : InOrder id_before key rows → IsPartitionedBy (λ r. not (id_before id (key r))) rows
+  parted_behind order i j d l m is =
+      sym (before_next (key (slice_index_or rows i d)) id) ∙ parted key (next_id id) rows order i j d l m (before_next (key (slice_index_or rows j d)) id ∙ is)
+
+  pub next_point : (at : ℕ) → IsPartitionPoint (λ r. not (id_before id (key r)) ≡ true) (λ r. not (id_before id (key r)) ≡ false) rows at → IsPartitionPoint (λ r. id_before (key r) (next_id id) ≡ true) (λ r. id_before (key r) (next_id id) ≡ false) rows at
+  next_point at point = (
+    λ k d l m. before_next (key (slice_index_or rows k d)) id ∙ point.0 k d l m,
+    λ k d l m. before_next (key (slice_index_or rows k d)) id ∙ point.1 k d l m,
+  )
 
 -- the ids of such rows rise
 pub rising_ids : {R : Type 0} (key : R → Id) (rows : List R) → InOrder id_before key rows → RiseById (map key rows)

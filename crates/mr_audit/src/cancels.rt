@@ -4,8 +4,7 @@ ghost use Rattle.mr_model.specs.Queries.{is_marked};
 ghost use Rattle.mr_agree.specs.Agreeing.{is_taken_by, do_cancels_agree};
 ghost use Rattle.mr_audit.specs.KeyOrders.{AreByRisingId};
 
-use crate::id_rows::{RowId, find, row_id};
-use mr_base::WriteId;
+use crate::id_rows::find;
 use mr_tables::{CancelRow, CancelledRow, Tables};
 
 /// Whether each booking that was taken back has the cancel that did so, and each cancel that is done has such a booking.
@@ -32,7 +31,7 @@ fn is_taken_back(tables: &Tables, row: &CancelledRow) -> bool
     requires { AreByRisingId tables.now }
     ensures { result ≡ list_any (λ c. is_taken_by c row.now) tables.now.cancels }
 {
-    match find(&tables.cancels, id_of(row.by)) {
+    match find(&tables.cancels, row.by) {
         Some(cancel) => is_taken_by(cancel, row),
         None => false,
     }
@@ -54,7 +53,7 @@ fn is_done(tables: &Tables, cancel: &CancelRow) -> bool
     requires { AreByRisingId tables.now }
     ensures { result ≡ list_any (is_taken_by cancel.now) tables.now.cancelled }
 {
-    match find(&tables.cancelled, id_of(cancel.target)) {
+    match find(&tables.cancelled, cancel.target) {
         Some(row) => is_taken_by(cancel, row),
         None => false,
     }
@@ -63,10 +62,10 @@ fn is_done(tables: &Tables, cancel: &CancelRow) -> bool
 fn is_taken_by(cancel: &CancelRow, row: &CancelledRow) -> bool
     ensures { result ≡ is_taken_by cancel.now row.now }
 {
-    let id = row_id(cancel).is_same(id_of(row.by));
-    let target = id_of(cancel.target).is_same(row_id(row));
-    let room = cancel.room == row.room;
-    let mark = is_mark_kept(cancel.seq, row.committed);
+    let id = cancel.id() == row.by;
+    let target = cancel.target == row.id();
+    let room = cancel.room == row.booking.room;
+    let mark = is_mark_kept(cancel.seq, row.booking.committed);
     id & cancel.done & target & room & mark
 }
 
@@ -75,13 +74,4 @@ fn is_mark_kept(seq: u64, committed: bool) -> bool
     ensures { result ≡ (not (is_marked seq) || committed) }
 {
     seq == 0 || committed
-}
-
-fn id_of(id: WriteId) -> RowId
-    ensures { result ≡ id }
-{
-    RowId {
-        server: id.server,
-        n: u64::from(id.n),
-    }
 }

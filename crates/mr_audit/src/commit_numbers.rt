@@ -1,32 +1,13 @@
 ghost use Rattle.std.specs.Prelude.{◌≡◌, ◌++◌, not, map, OnOk, IfOk, IfErr};
 ghost use Rattle.std.specs.List.Sorted.{IsPermutation, IsSortedByKey};
 ghost use Rattle.std.specs.Ordering.{nat_cmp};
-ghost use Rattle.mr_agree.specs.Agreeing.{notes, log_note, error_note, cancel_note};
+ghost use Rattle.mr_agree.specs.Agreeing.{notes};
 ghost use Rattle.mr_audit.specs.Apart.{apart, do_numbers_differ, is_next_number, are_numbers_single};
 
-use mr_base::{Refusal, ServerId};
-use mr_tables::{CancelRow, ErrorRow, LogRow, Tables};
+use crate::note_rows::{Note, NoteRow};
+use mr_base::Refusal;
+use mr_tables::Tables;
 use std::alloc::Global;
-use std::marker::Model;
-
-/// What a row of `log`, `errorlog` or `cancels` has of its write: the id, the time and the commit number, 0 if there is none.
-#[derive(Clone, Copy, Debug)]
-struct Note {
-    server: ServerId,
-    n: u32,
-    time: u64,
-    seq: u64,
-}
-
-impl Model for Note {
-    ghost use Rattle.mr_agree.specs.Agreeing as agreeing;
-
-    ghost Value = { agreeing.Note };
-
-    ghost view = { λ a. record { id = record { server = a.server; n = a.n }; time = a.time; seq = a.seq } };
-
-    ghost inverse = { λ v. record { server = v.id.server; n = v.id.n; time = v.time; seq = v.seq } };
-}
 
 /// Whether no two writes have one commit number. It takes 24 bytes for each row of `log`, `errorlog` and `cancels`.
 pub fn are_numbers_single(alloc: Global, tables: &Tables) -> Result<bool, Refusal>
@@ -43,51 +24,20 @@ fn notes_of(alloc: Global, tables: &Tables) -> Result<Vec<Note>, Refusal>
     ensures only { IfErr result (λ e. e ≡ Refusal.OutOfMemory) }
 {
     let mut notes = Vec::new(alloc);
-    push_logs(&mut notes, &tables.log)?;
-    push_errors(&mut notes, &tables.errorlog)?;
-    push_cancels(&mut notes, &tables.cancels)?;
+    push_notes(&mut notes, &tables.log)?;
+    push_notes(&mut notes, &tables.errorlog)?;
+    push_notes(&mut notes, &tables.cancels)?;
     Ok(notes)
 }
 
-fn push_logs(notes: &mut Vec<Note>, rows: &[LogRow]) -> Result<(), Refusal>
-    ensures notes { OnOk result (notes.new.items ≡ notes.old.items ++ map log_note rows.now) }
+fn push_notes<R: NoteRow>(notes: &mut Vec<Note>, rows: &[R]) -> Result<(), Refusal>
+    ensures notes { OnOk result (notes.new.items ≡ notes.old.items ++ map R.note rows.now) }
     ensures only { IfErr result (λ e. e ≡ Refusal.OutOfMemory) }
 {
     for row in rows {
-        notes.push(note_of(row.server, row.n, row.time, row.seq))?;
+        notes.push(row.note())?;
     }
     Ok(())
-}
-
-fn push_errors(notes: &mut Vec<Note>, rows: &[ErrorRow]) -> Result<(), Refusal>
-    ensures notes { OnOk result (notes.new.items ≡ notes.old.items ++ map error_note rows.now) }
-    ensures only { IfErr result (λ e. e ≡ Refusal.OutOfMemory) }
-{
-    for row in rows {
-        notes.push(note_of(row.server, row.n, row.time, row.seq))?;
-    }
-    Ok(())
-}
-
-fn push_cancels(notes: &mut Vec<Note>, rows: &[CancelRow]) -> Result<(), Refusal>
-    ensures notes { OnOk result (notes.new.items ≡ notes.old.items ++ map cancel_note rows.now) }
-    ensures only { IfErr result (λ e. e ≡ Refusal.OutOfMemory) }
-{
-    for row in rows {
-        notes.push(note_of(row.server, row.n, row.time, row.seq))?;
-    }
-    Ok(())
-}
-
-fn note_of(server: ServerId, n: u32, time: u64, seq: u64) -> Note
-    ensures { result ≡ record { id = record { server = server; n = n }; time = time; seq = seq } }
-{
-    Note {
-        server,
-        n,
-        time,
-        seq,
-    }
 }
 
 fn sort_notes(notes: &mut Vec<Note>)
@@ -108,6 +58,5 @@ fn are_in_order(notes: &[Note]) -> bool
 fn is_next(one: &Note, next: &Note) -> bool
     ensures { result ≡ is_next_number one.now next.now }
 {
-    let is_same = one.server == next.server && one.n == next.n;
-    one.seq < next.seq || (one.seq == next.seq && (one.seq == 0 || is_same))
+    one.seq < next.seq || (one.seq == next.seq && (one.seq == 0 || one.id == next.id))
 }

@@ -6,7 +6,7 @@ ghost use Rattle.mr_agree.specs.Agreeing.{is_counted, row_ids, do_ids_agree};
 ghost use Rattle.mr_audit.specs.KeyOrders.{AreByRisingId};
 ghost use Rattle.mr_audit.specs.SideBySide.{are_apart, are_tables_apart};
 
-use crate::id_rows::{has, row_id};
+use crate::id_rows::has;
 use crate::known::{is_counted, write_count};
 use mr_tables::{IdRow, Tables};
 
@@ -33,7 +33,7 @@ fn are_counted<R: IdRow>(rows: &[R], tables: &Tables) -> bool
     ensures { result ≡ list_all (is_counted tables.now) (map R.id rows.now) }
 {
     for row in rows {
-        if !is_counted(tables, row_id(row)) {
+        if !is_counted(tables, row.write_id()) {
             return false;
         }
     }
@@ -57,7 +57,7 @@ fn are_apart<R: IdRow, S: IdRow>(rows: &[R], others: &[S]) -> bool
     ensures { result ≡ are_apart (map R.id rows.now) (map S.id others.now) }
 {
     for row in rows {
-        if has(others, row_id(row)) {
+        if has(others, row.write_id()) {
             return false;
         }
     }

@@ -2,8 +2,7 @@ ghost use Rattle.std.specs.Prelude.{◌≡◌};
 ghost use Rattle.std.specs.List.{sum_by};
 ghost use Rattle.mr_agree.specs.Agreeing.{vector_in, is_counted, is_first, is_last};
 
-use crate::id_rows::RowId;
-use mr_base::ServerId;
+use mr_base::{ServerId, WriteId};
 use mr_tables::{Tables, VectorRow};
 
 /// What the vector tells of a server: its row, or one of zeros if it has none.
@@ -24,27 +23,27 @@ pub(crate) fn vector_row(rows: &[VectorRow], server: ServerId) -> VectorRow
 }
 
 /// Whether the write of this id is known.
-pub(crate) fn is_counted(tables: &Tables, id: RowId) -> bool
+pub(crate) fn is_counted(tables: &Tables, id: WriteId) -> bool
     ensures { result ≡ is_counted tables.now id }
 {
     let row = vector_row(&tables.vector, id.server);
-    1 <= id.n && id.n <= u64::from(row.count)
+    1 <= id.n && id.n <= row.count
 }
 
 /// Whether it is among the first of its server, which are the committed ones.
-pub(crate) fn is_first(tables: &Tables, id: RowId) -> bool
+pub(crate) fn is_first(tables: &Tables, id: WriteId) -> bool
     ensures { result ≡ is_first tables.now id }
 {
     let row = vector_row(&tables.vector, id.server);
-    id.n <= u64::from(row.committed)
+    id.n <= row.committed
 }
 
 /// Whether it is the last of its server.
-pub(crate) fn is_last(tables: &Tables, id: RowId) -> bool
+pub(crate) fn is_last(tables: &Tables, id: WriteId) -> bool
     ensures { result ≡ is_last tables.now id }
 {
     let row = vector_row(&tables.vector, id.server);
-    id.n == u64::from(row.count)
+    id.n == row.count
 }
 
 /// How many writes of all servers are known. As many rows as there can be have no greater sum than 128 bits hold.

@@ -6,9 +6,10 @@ ghost use Rattle.mr_agree.specs.Agreeing.{same_mark, row_ids, is_first, is_last,
 ghost use Rattle.mr_audit.specs.KeyOrders.{AreByRisingId};
 ghost use Rattle.mr_audit.specs.SideBySide.{is_placed};
 
-use crate::id_rows::{RowId, has, row_id};
+use crate::id_rows::{has, has_next};
 use crate::known::{is_first, is_last, write_count};
 use crate::note_rows::NoteRow;
+use mr_base::WriteId;
 use mr_tables::{IdRow, LogRow, Tables};
 
 /// Whether as many writes are in no row of the log as are dropped.
@@ -41,7 +42,7 @@ pub(crate) fn does_log_agree(tables: &Tables) -> bool
     placed & kept & next & errors & cancels & undropped
 }
 
-fn is_in_log(tables: &Tables, id: RowId) -> bool
+fn is_in_log(tables: &Tables, id: WriteId) -> bool
     requires { AreByRisingId tables.now }
     ensures { result ≡ is_in_log tables.now id }
 {
@@ -54,14 +55,14 @@ fn are_placed(rows: &[LogRow], tables: &Tables) -> bool
     ensures { result ≡ list_all (λ id. is_placed id tables.now) (map log_id rows.now) }
 {
     for row in rows {
-        if !is_placed(tables, row_id(row)) {
+        if !is_placed(tables, row.id()) {
             return false;
         }
     }
     true
 }
 
-fn is_placed(tables: &Tables, id: RowId) -> bool
+fn is_placed(tables: &Tables, id: WriteId) -> bool
     requires { AreByRisingId tables.now }
     ensures { result ≡ is_placed id tables.now }
 {
@@ -85,7 +86,7 @@ fn are_committed_or_kept<R: IdRow>(rows: &[R], tables: &Tables) -> bool
     ensures { result ≡ list_all (λ id. is_first tables.now id || is_in_log tables.now id) (map R.id rows.now) }
 {
     for row in rows {
-        let id = row_id(row);
+        let id = row.write_id();
         if !(is_first(tables, id) || is_in_log(tables, id)) {
             return false;
         }
@@ -99,20 +100,11 @@ fn have_next(rows: &[LogRow], tables: &Tables) -> bool
     ensures { result ≡ list_all (λ id. is_last tables.now id || is_in_log tables.now (next_id id)) (map log_id rows.now) }
 {
     for row in rows {
-        if !(is_last(tables, row_id(row)) || is_in_log(tables, next_of(row))) {
+        if !(is_last(tables, row.id()) || has_next(&tables.log, row.id())) {
             return false;
         }
     }
     true
-}
-
-fn next_of(row: &LogRow) -> RowId
-    ensures { result ≡ next_id (log_id row.now) }
-{
-    RowId {
-        server: row.server,
-        n: u64::from(row.n) + 1,
-    }
 }
 
 /// Whether of each write of these the number tells if it is in the log.
@@ -121,14 +113,14 @@ fn are_kept_or_dropped<R: NoteRow>(rows: &[R], tables: &Tables) -> bool
     ensures { result ≡ list_all (λ row. same_mark (is_in_log tables.now (R.id row)) (not (within 1 tables.now.meta.dropped (R.note row).seq))) rows.now }
 {
     for row in rows {
-        if !is_kept_or_dropped(tables, row_id(row), row.note().seq) {
+        if !is_kept_or_dropped(tables, row.write_id(), row.note().seq) {
             return false;
         }
     }
     true
 }
 
-fn is_kept_or_dropped(tables: &Tables, id: RowId, seq: u64) -> bool
+fn is_kept_or_dropped(tables: &Tables, id: WriteId, seq: u64) -> bool
     requires { AreByRisingId tables.now }
     ensures { result ≡ same_mark (is_in_log tables.now id) (not (within 1 tables.now.meta.dropped seq)) }
 {

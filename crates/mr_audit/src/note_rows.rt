@@ -1,14 +1,14 @@
 ghost use Rattle.std.specs.Prelude.{◌≡◌, refl};
 ghost use Rattle.mr_agree.specs.Agreeing.{Note as NoteOfRow, log_note, error_note, cancel_note};
 
-use crate::id_rows::{RowId, row_id};
+use mr_base::WriteId;
 use mr_tables::{CancelRow, ErrorRow, IdRow, LogRow};
 use std::marker::Model;
 
 /// What rows of the log, of errors and of cancels have of a write: its id, its time, and its commit number or 0.
 #[derive(Clone, Copy, Debug)]
 pub(crate) struct Note {
-    pub(crate) id: RowId,
+    pub(crate) id: WriteId,
     pub(crate) time: u64,
     pub(crate) seq: u64,
 }
@@ -38,7 +38,7 @@ impl NoteRow for LogRow {
 
     fn note(&self) -> Note {
         Note {
-            id: row_id(self),
+            id: self.id(),
             time: self.time,
             seq: self.seq,
         }
@@ -52,7 +52,7 @@ impl NoteRow for ErrorRow {
 
     fn note(&self) -> Note {
         Note {
-            id: row_id(self),
+            id: self.id(),
             time: self.time,
             seq: self.seq,
         }
@@ -66,7 +66,7 @@ impl NoteRow for CancelRow {
 
     fn note(&self) -> Note {
         Note {
-            id: row_id(self),
+            id: self.id(),
             time: self.time,
             seq: self.seq,
         }

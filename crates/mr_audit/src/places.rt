@@ -7,7 +7,7 @@ ghost use Rattle.mr_replay.specs.Places.{place_seen};
 ghost use Rattle.mr_agree.specs.Agreeing.{same_mark, same_booking, same_error, same_cancel, taken_row, logged_row, cancelling_row, slots_in, has_taken, has_logged, is_at_place, do_places_agree};
 ghost use Rattle.mr_audit.specs.KeyOrders.{AreByRisingId};
 
-use crate::id_rows::{find, row_id};
+use crate::id_rows::find;
 use crate::texts::{is_slot, is_stop, slot_words};
 use mr_base::WriteId;
 use mr_replay::Place;
@@ -75,12 +75,13 @@ fn is_booked(tables: &Tables, row: &LogRow, cells: &MeetingCells, day: &str, tim
     requires { AreByRisingId tables.now }
     ensures { result ≡ list_any (same_booking (taken_row row.now cells.now (slot_in day.now time.now))) tables.now.booking }
 {
-    match find(&tables.booking, row_id(row)) {
+    match find(&tables.booking, row.id()) {
         Some(booked) => is_same_booking(row, cells, day, time, booked),
         None => false,
     }
 }
 
+/// Whether the booking, as it stands or stood, has what the log tells of it.
 fn is_same_booking(
     row: &LogRow,
     cells: &MeetingCells,
@@ -90,7 +91,7 @@ fn is_same_booking(
 ) -> bool
     ensures { result ≡ same_booking (taken_row row.now cells.now (slot_in day.now time.now)) booked.now }
 {
-    let id = row_id(row).is_same(row_id(booked));
+    let id = row.id() == booked.id();
     let room = row.room == booked.room;
     let slot = is_slot(day, time, booked.day, booked.start);
     let stop = is_stop(time, cells.length, booked.stop);
@@ -103,28 +104,10 @@ fn is_cancelled(tables: &Tables, row: &LogRow, cells: &MeetingCells, day: &str, 
     requires { AreByRisingId tables.now }
     ensures { result ≡ list_any (λ c. same_booking (taken_row row.now cells.now (slot_in day.now time.now)) (as_booked c)) tables.now.cancelled }
 {
-    match find(&tables.cancelled, row_id(row)) {
-        Some(cancelled) => is_same_cancelled(row, cells, day, time, cancelled),
+    match find(&tables.cancelled, row.id()) {
+        Some(cancelled) => is_same_booking(row, cells, day, time, &cancelled.booking),
         None => false,
     }
-}
-
-fn is_same_cancelled(
-    row: &LogRow,
-    cells: &MeetingCells,
-    day: &str,
-    time: &str,
-    cancelled: &CancelledRow,
-) -> bool
-    ensures { result ≡ same_booking (taken_row row.now cells.now (slot_in day.now time.now)) (as_booked cancelled.now) }
-{
-    let id = row_id(row).is_same(row_id(cancelled));
-    let room = row.room == cancelled.room;
-    let slot = is_slot(day, time, cancelled.day, cancelled.start);
-    let stop = is_stop(time, cells.length, cancelled.stop);
-    let title = cells.title.as_str() == cancelled.title.as_str();
-    let mark = is_mark(row.seq, cancelled.committed);
-    id & room & slot & stop & title & mark
 }
 
 /// Whether it is in the error log, with its wish.
@@ -142,7 +125,7 @@ fn is_erred(tables: &Tables, row: &LogRow, cells: &MeetingCells, day: &str, time
     requires { AreByRisingId tables.now }
     ensures { result ≡ list_any (same_error (logged_row row.now cells.now (slot_in day.now time.now))) tables.now.errorlog }
 {
-    match find(&tables.errorlog, row_id(row)) {
+    match find(&tables.errorlog, row.id()) {
         Some(error) => is_same_error(row, cells, day, time, error),
         None => false,
     }
@@ -157,7 +140,7 @@ fn is_same_error(
 ) -> bool
     ensures { result ≡ same_error (logged_row row.now cells.now (slot_in day.now time.now)) error.now }
 {
-    let id = row_id(row).is_same(row_id(error));
+    let id = row.id() == error.id();
     let room = row.room == error.room;
     let slot = is_slot(day, time, error.day, error.start);
     let stop = is_stop(time, cells.length, error.stop);
@@ -191,7 +174,7 @@ fn has_cancel(tables: &Tables, row: &LogRow, target: WriteId, done: bool) -> boo
     requires { AreByRisingId tables.now }
     ensures { result ≡ list_any (same_cancel (cancelling_row row.now target done)) tables.now.cancels }
 {
-    match find(&tables.cancels, row_id(row)) {
+    match find(&tables.cancels, row.id()) {
         Some(cancel) => is_same_cancel(row, target, done, cancel),
         None => false,
     }
@@ -200,9 +183,9 @@ fn has_cancel(tables: &Tables, row: &LogRow, target: WriteId, done: bool) -> boo
 fn is_same_cancel(row: &LogRow, target: WriteId, done: bool, cancel: &CancelRow) -> bool
     ensures { result ≡ same_cancel (cancelling_row row.now target done) cancel.now }
 {
-    let id = row_id(row).is_same(row_id(cancel));
+    let id = row.id() == cancel.id();
     let room = row.room == cancel.room;
-    let took = target.server == cancel.target.server && target.n == cancel.target.n;
+    let took = target == cancel.target;
     let same_done = is_same_done(done, cancel.done);
     let stamp = row.time == cancel.time;
     let number = row.seq == cancel.seq;

@@ -46,7 +46,8 @@ fn are_errors_known(rooms: &[RoomName], rows: &[ErrorRow], is_sorted: bool) -> b
 fn are_cancelled_known(rooms: &[RoomName], rows: &[CancelledRow], is_sorted: bool) -> bool
     ensures { (IsTrue is_sorted → Rise text_before (λ name. name) rooms.now) → result ≡ list_all (λ row. list_any (bytes_eq row.room) rooms.now) rows.now }
 {
-    rows.iter().all(|row| has_room(rooms, &row.room, is_sorted))
+    rows.iter()
+        .all(|row| has_room(rooms, &row.booking.room, is_sorted))
 }
 
 fn are_cancels_known(rooms: &[RoomName], rows: &[CancelRow], is_sorted: bool) -> bool

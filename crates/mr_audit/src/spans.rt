@@ -47,7 +47,7 @@ fn are_cancelled_spans(rows: &[CancelledRow]) -> bool
 fn is_cancelled_span(row: &CancelledRow) -> bool
     ensures { result ≡ is_span (record { day = row.now.day; start = row.now.start }) row.now.stop }
 {
-    is_span(row.day, row.start, row.stop)
+    is_booking_span(&row.booking)
 }
 
 fn is_span(day: Day, start: u32, stop: u32) -> bool

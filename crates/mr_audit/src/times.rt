@@ -4,10 +4,10 @@ ghost use Rattle.mr_agree.specs.Agreeing.{notes, does_time_agree};
 ghost use Rattle.mr_audit.specs.KeyOrders.{AreByRisingId};
 ghost use Rattle.mr_audit.specs.Turns.{are_all_in_turn, are_tables_fitting, AreChains, AreInTurn};
 
-use crate::id_rows::RowId;
 use crate::known::vector_row;
 use crate::note_rows::NoteRow;
 use crate::turns::{are_fitting, is_chain};
+use mr_base::WriteId;
 use mr_tables::Tables;
 
 /// Whether the last write of each server has the time that the vector tells, and the others have earlier ones.
@@ -32,11 +32,11 @@ fn do_row_times_agree<R: NoteRow>(rows: &[R], tables: &Tables) -> bool
 }
 
 /// Of a note its id and its time tell.
-fn does_time_agree(tables: &Tables, id: RowId, time: u64) -> bool
+fn does_time_agree(tables: &Tables, id: WriteId, time: u64) -> bool
     ensures { result ≡ does_time_agree tables.now (record { id = id; time = time; seq = 0 }) }
 {
     let row = vector_row(&tables.vector, id.server);
-    if id.n == u64::from(row.count) {
+    if id.n == row.count {
         time == row.last_time
     } else {
         time < row.last_time

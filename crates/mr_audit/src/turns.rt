@@ -6,12 +6,13 @@ ghost use Rattle.mr_agree.specs.Agreeing.{are_numbers_in_order};
 ghost use Rattle.mr_audit.specs.Turns.{comes_before, is_same_note, are_two_in_turn, FrontFits, BehindFits, are_fitting};
 
 use crate::note_rows::{Note, NoteRow};
+use mr_tables::is_id_before;
 
 /// Whether the id is before the other one, and of one server's writes so are the time and the number.
 pub(crate) fn comes_before(one: Note, next: Note) -> bool
     ensures { result ≡ comes_before one next }
 {
-    one.id.is_before(next.id)
+    is_id_before(one.id, next.id)
         && (one.id.server != next.id.server
             || (one.time < next.time && are_numbers_in_order(one.seq, next.seq)))
 }
@@ -26,7 +27,7 @@ fn are_numbers_in_order(seq: u64, later: u64) -> bool
 fn is_same_note(one: Note, other: Note) -> bool
     ensures { result ≡ is_same_note one other }
 {
-    one.id.is_same(other.id) && (one.time == other.time && one.seq == other.seq)
+    one.id == other.id && (one.time == other.time && one.seq == other.seq)
 }
 
 /// Whether each row comes before the next.
@@ -54,7 +55,7 @@ fn is_fitting<R: NoteRow>(note: Note, rows: &[R]) -> bool
     requires { InOrder comes_before R.note rows.now }
     ensures { result ≡ list_all (λ row. are_two_in_turn note (R.note row)) rows.now }
 {
-    let at = rows.partition_point(|row| row.note().id.is_before(note.id));
+    let at = rows.partition_point(|row| is_id_before(row.note().id, note.id));
     let front = is_front_fitting(rows, at, note);
     let behind = is_behind_fitting(rows, at, note);
     front & behind

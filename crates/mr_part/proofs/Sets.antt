@@ -1,5 +1,5 @@
 -- Ordered sets of what the items of a batch name, and of rooms: how they are filled, and what they are asked.
-use Rattle.std.proofs.Common.{◌≡◌, refl, sym, ap, ◌∙◌, subst, ℕ, Bool, true, false, ◌||◌, cond, List, [], ◌∷◌, IsTrue}
+use Rattle.std.proofs.Common.{◌≡◌, refl, sym, ap, ◌∙◌, subst, Bool, true, false, ◌||◌, cond, List, [], ◌∷◌, IsTrue}
 use Rattle.std.proofs.lemmas.Map.Keys.{sorted_head, sorted_tail}
 use Rattle.std.proofs.lemmas.Map.Text.{is_eq-slice_cmp}
 use Rattle.std.proofs.lemmas.Slice.Eq.{bytes_eq-Decides}
@@ -8,7 +8,7 @@ use Rattle.std.specs.declared.cmp.Ordering.TheVariants.{Less}
 use Rattle.std.specs.List.Sorted.{IsStrictlySortedBy}
 use Rattle.std.specs.Cmp.Lexicographic.{slice_cmp}
 use Rattle.std.specs.List.{list_any}
-use Rattle.std.specs.Ordering.{is_lt, nat_cmp, ordering_then}
+use Rattle.std.specs.Ordering.{is_lt, nat_cmp}
 use Rattle.std.specs.Prelude.{bytes_eq}
 use Rattle.mr_model.specs.Texts.{Text}
 use Rattle.mr_model.specs.Replica.{text_before, AreInNameOrder}
@@ -16,6 +16,7 @@ use Rattle.mr_model.specs.Dropped.{Has}
 use Rattle.mr_model.specs.Writes.{Id, same_id}
 use Rattle.mr_model.proofs.Members.{has_all, all_has, Sorted, sorted_same, any_has, has_any}
 use Rattle.mr_model.proofs.MembersAlike.{bool_same}
+use Rattle.mr_base.specs.Ids.{id_cmp}
 use Rattle.mr_replay.proofs.IdKeys.{at_is}
 use Rattle.mr_tables.proofs.Naming.{before-cmp}
 use Rattle.mr_tables.specs.TableOrders.{name_order}
@@ -36,9 +37,9 @@ or-cond true b = refl
 or-cond false b = refl
 
 -- a set with one id more
-pub id_more : (old new : BTreeSet (ℕ × ℕ)) (added id : Id) → Updates (λ (x y : ℕ × ℕ). ordering_then (nat_cmp x.0 y.0) (nat_cmp x.1 y.1)) old new (added.server, added.n) true → has_id new id ≡ (same_id added id || has_id old id)
+pub id_more : (old new : BTreeSet Id) (added id : Id) → Updates id_cmp old new added true → has_id new id ≡ (same_id added id || has_id old id)
 id_more old new added id updates =
-    updates.0 (id.server, id.n) ∙ (λ t. cond (at_is t added id) true (has_id old id)) ∙ or-cond (same_id added id) (has_id old id)
+    updates.0 id ∙ (λ t. cond (at_is t added id) true (has_id old id)) ∙ or-cond (same_id added id) (has_id old id)
 
 -- ---- rooms
 

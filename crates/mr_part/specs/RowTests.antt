@@ -1,5 +1,5 @@
 -- Which rows are in scope: tests that are made once for all rows of a table, and for which scope they are.
-use Rattle.std.specs.Prelude.{◌≡◌, ℕ, Bool, false, ◌||◌, List, [], ◌∷◌, map, filter, Option, Some, None}
+use Rattle.std.specs.Prelude.{◌≡◌, Bool, false, ◌||◌, List, [], ◌∷◌, map, filter, Option, Some, None}
 use Rattle.std.specs.BTreeSet.{BTreeSet}
 use Rattle.mr_model.specs.Texts.{Text, within}
 use Rattle.mr_model.specs.Writes.{Id, same_id}
@@ -27,7 +27,7 @@ passes (test.OfBatch batch) row = has_log batch.now row
 -- ---- rows of bookings
 
 -- the set has these ids
-abbrev pub IsIdSetOf : BTreeSet (ℕ × ℕ) → List Id → Type 0
+abbrev pub IsIdSetOf : BTreeSet Id → List Id → Type 0
 IsIdSetOf set ids = (id : Id) → has_id set id ≡ is_among id ids
 
 abbrev pub is_target : Option Id → Id → Bool

@@ -1,15 +1,15 @@
 -- Ordered sets of ids and of rooms, which are made once for a batch.
-use Rattle.std.specs.Prelude.{◌≡◌, ℕ, Bool, List, bytes_eq}
+use Rattle.std.specs.Prelude.{◌≡◌, Bool, List, bytes_eq}
 use Rattle.std.specs.BTreeSet.{BTreeSet, contains}
 use Rattle.std.specs.List.{list_any}
-use Rattle.std.specs.Ordering.{nat_cmp, ordering_then}
 use Rattle.mr_model.specs.Texts.{Text}
 use Rattle.mr_model.specs.Writes.{Id}
+use Rattle.mr_base.specs.Ids.{id_cmp}
 use Rattle.mr_replay.specs.Seen.{has_room}
 
 -- whether the set has an id
-abbrev pub has_id : BTreeSet (ℕ × ℕ) → Id → Bool
-has_id ids id = contains (λ (x y : ℕ × ℕ). ordering_then (nat_cmp x.0 y.0) (nat_cmp x.1 y.1)) ids (id.server, id.n)
+abbrev pub has_id : BTreeSet Id → Id → Bool
+has_id ids id = contains id_cmp ids id
 
 -- the set has these rooms
 abbrev pub IsSetOf : BTreeSet Text → List Text → Type 0

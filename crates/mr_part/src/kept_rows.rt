@@ -112,8 +112,7 @@ fn is_of_row(write: &Write, log: &LogRow) -> bool
     ensures { result ≡ is_of_row write.now log.now }
 {
     let stamp = write.stamp;
-    stamp.server == log.server
-        && stamp.n == log.n
+    stamp.id() == log.id()
         && stamp.time == log.time
         && write.room.as_str() == log.room.as_str()
         && is_of_cells(&write.action, &log.action)

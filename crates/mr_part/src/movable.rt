@@ -61,8 +61,7 @@ fn add_rows(
 {
     for row in kept {
         let write = &row.write;
-        let stamp = write.stamp;
-        add_if_named(alloc, rooms, ids, stamp.server, stamp.n, &write.room)?;
+        add_if_named(alloc, rooms, ids, row.id(), &write.room)?;
     }
     Ok(())
 }

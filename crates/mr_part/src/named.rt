@@ -5,7 +5,7 @@ ghost use Rattle.mr_base.specs.Batches.{item_of};
 ghost use Rattle.mr_part.specs.Named.{has_commit, has_named, IsNamedBy};
 ghost use Rattle.mr_part.specs.Sets.{has_id};
 
-use mr_base::{Item, Refusal, ServerId};
+use mr_base::{Item, Refusal, WriteId};
 use std::alloc::Global;
 use std::collections::BTreeSet;
 
@@ -13,8 +13,8 @@ use std::collections::BTreeSet;
 /// at the cost of a logarithm.
 #[derive(Drop)]
 pub struct Named {
-    /// By the server and the count.
-    pub ids: BTreeSet<(ServerId, u32)>,
+    /// Those of the writes and of the commits.
+    pub ids: BTreeSet<WriteId>,
     /// Those of the commits.
     pub numbers: BTreeSet<u64>,
 }
@@ -35,12 +35,11 @@ impl Named {
         Ok(named)
     }
 
-    /// Whether the write of this server and count, which has this commit number, 0 if it is tentative, is named: by its id or by its
-    /// number.
-    pub fn has(&self, server: ServerId, n: u32, number: u64) -> bool
-        ensures { result ≡ has_named self.now (record { server = server; n = n }) number }
+    /// Whether the write of this id, which has this commit number, 0 if it is tentative, is named: by its id or by its number.
+    pub fn has(&self, id: WriteId, number: u64) -> bool
+        ensures { result ≡ has_named self.now id number }
     {
-        self.ids.contains(&(server, n)) || (number != 0 && self.numbers.contains(&number))
+        self.ids.contains(&id) || (number != 0 && self.numbers.contains(&number))
     }
 
     /// Adds what an item names.
@@ -51,11 +50,10 @@ impl Named {
     {
         match item {
             Item::W(write) => {
-                let stamp = write.stamp;
-                self.ids.insert((stamp.server, stamp.n))?;
+                self.ids.insert(write.stamp.id())?;
             }
             Item::C { seq, id } => {
-                self.ids.insert((id.server, id.n))?;
+                self.ids.insert(*id)?;
                 self.numbers.insert(seq.number())?;
             }
         }

@@ -54,7 +54,10 @@ pub(crate) fn place_row_on(
             standing: Standing::CancelledBy(by),
         } => {
             let row = booking_row(alloc, summary, id, &row.room, *slot, *length, title)?;
-            Ok(Some(PlaceRow::Cancelled(CancelledRow::of_booking(row, *by))))
+            Ok(Some(PlaceRow::Cancelled(CancelledRow {
+                booking: row,
+                by: *by,
+            })))
         }
         _ => Ok(None),
     }
@@ -139,7 +142,7 @@ fn push_taken(
             standing: Standing::Booked,
         } => {
             let row = booking_row(alloc, summary, id, &row.room, *slot, *length, title)?;
-            rows.push(PlaceRow::Cancelled(CancelledRow::of_booking(row, by)))?;
+            rows.push(PlaceRow::Cancelled(CancelledRow { booking: row, by }))?;
             Ok(())
         }
         _ => Ok(()),

@@ -50,7 +50,7 @@ impl BatchScope {
     pub(crate) fn has_log(&self, row: &LogRow) -> bool
         ensures { result ≡ has_log self.now row.now }
     {
-        self.named.has(row.server, row.n, row.seq)
+        self.named.has(row.id(), row.seq)
             || (row.seq == 0
                 && self.tail.has_place(row.time, row.server)
                 && self.rooms.contains(&row.room))
@@ -82,7 +82,7 @@ fn add_rows(alloc: Global, rooms: &mut RoomSet, ids: &IdSet, rows: &[LogRow]) ->
     ensures only { IfErr result (λ e. e ≡ Refusal.OutOfMemory) }
 {
     for row in rows {
-        add_if_named(alloc, rooms, ids, row.server, row.n, &row.room)?;
+        add_if_named(alloc, rooms, ids, row.id(), &row.room)?;
     }
     Ok(())
 }

@@ -83,9 +83,9 @@ impl BookingTest {
         ensures { result ≡ has_cancelled self.now row.now }
     {
         let id = row.id();
-        self.rooms.contains(&row.room)
+        self.rooms.contains(&row.booking.room)
             || is_target(self.target, id)
-            || self.taken.contains(&(id.server, id.n))
+            || self.taken.contains(&id)
     }
 }
 

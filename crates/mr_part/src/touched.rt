@@ -7,12 +7,12 @@ ghost use Rattle.mr_replay.specs.Seen.{has_room};
 ghost use Rattle.mr_part.specs.Touched.{commits_id, writes_in, IsTouchedBy};
 
 use crate::room_sets::{RoomSet, add_room};
-use mr_base::{Item, Refusal, RoomName, ServerId};
+use mr_base::{Item, Refusal, RoomName, WriteId};
 use std::alloc::Global;
 use std::collections::BTreeSet;
 
-/// Ids, by the server and the count.
-pub type IdSet = BTreeSet<(ServerId, u32)>;
+/// Ids of writes.
+pub type IdSet = BTreeSet<WriteId>;
 
 /// What a batch touches by itself, as far as it doesn't depend on the kept writes.
 #[derive(Drop)]
@@ -49,7 +49,7 @@ impl Touched {
             Item::W(write) => add_room(alloc, &mut self.rooms, &write.room),
             Item::C { seq, id } => {
                 if seq.number() > commits {
-                    self.committed.insert((id.server, id.n))?;
+                    self.committed.insert(*id)?;
                 }
                 Ok(())
             }
@@ -62,14 +62,13 @@ pub fn add_if_named(
     alloc: Global,
     rooms: &mut RoomSet,
     ids: &IdSet,
-    server: ServerId,
-    n: u32,
+    id: WriteId,
     room: &RoomName,
 ) -> Result<(), Refusal>
-    ensures rooms { OnOk result ((name : Text) → has_room rooms.new name ≡ ((has_id ids.now (record { server = server; n = n }) && bytes_eq name room.now) || has_room rooms.old name)) }
+    ensures rooms { OnOk result ((name : Text) → has_room rooms.new name ≡ ((has_id ids.now id && bytes_eq name room.now) || has_room rooms.old name)) }
     ensures only { IfErr result (λ e. e ≡ Refusal.OutOfMemory) }
 {
-    if ids.contains(&(server, n)) {
+    if ids.contains(&id) {
         add_room(alloc, rooms, room)?;
     }
     Ok(())

@@ -139,10 +139,11 @@ pub(crate) fn row_of_cancelled(alloc: Global, row: &CancelledRow) -> Result<Row,
     ensures within { OnOk result ((row.now.start < row.now.stop) × (row.now.stop ≤ 1440)) }
     ensures only { row.now.start < row.now.stop → row.now.stop ≤ 1440 → IfErr result (λ e. e ≡ Refusal.OutOfMemory) }
 {
-    let slot = slot_in(row.day, row.start, row.stop)?;
-    let length = row.stop - row.start;
-    let standing = Standing::CancelledBy(row.by);
-    row_with(alloc, &row.room, slot, length, &row.title, standing)
+    let CancelledRow { booking, by } = row;
+    let slot = slot_in(booking.day, booking.start, booking.stop)?;
+    let length = booking.stop - booking.start;
+    let standing = Standing::CancelledBy(*by);
+    row_with(alloc, &booking.room, slot, length, &booking.title, standing)
 }
 
 /// What a row of `cancels` tells there, if the cancel found nothing to take back.

@@ -1,4 +1,5 @@
 ghost use Rattle.std.specs.Prelude.{◌≡◌, Ok, IfOk, IfErr};
+ghost use Rattle.mr_model.specs.Queries.{log_id};
 ghost use Rattle.mr_base.specs.Answers.{OrOutOfMemory};
 ghost use Rattle.mr_tables.specs.Cells.{action_cells};
 
@@ -72,7 +73,9 @@ pub struct LogRow {
 }
 
 impl Model for LogRow {
+    ghost use Rattle.std.specs.Prelude.{IsTrue};
     ghost use Rattle.mr_model.specs.Tables as tables;
+    ghost use Rattle.mr_model.specs.Writes.{is_count};
     ghost use Rattle.mr_replay.specs.Places.{place_seen};
     ghost use Rattle.mr_tables.specs.Cells.{action_cells};
 
@@ -87,9 +90,21 @@ impl Model for LogRow {
       place = place_seen r.place;
       seq = r.seq;
     } };
+
+    ghost invariant = { λ r. IsTrue (is_count r.n) };
 }
 
 impl LogRow {
+    /// The id of the write.
+    pub fn id(&self) -> WriteId
+        ensures { result ≡ log_id self.now }
+    {
+        let (server, n) = (self.server, self.n);
+        // For the prover alone: a server is from 1 to 99.
+        server.number();
+        WriteId { server, n }
+    }
+
     /// An equal row.
     pub fn copy(&self, alloc: Global) -> Result<LogRow, Refusal>
         ensures { OrOutOfMemory result (Ok self.now) }

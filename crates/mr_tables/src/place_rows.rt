@@ -75,7 +75,7 @@ fn of_meeting(
     };
     let row = booking_row(alloc, write, meeting, slot, committed)?;
     match by {
-        Some(by) => Ok(PlaceRow::Cancelled(CancelledRow::of_booking(row, by))),
+        Some(by) => Ok(PlaceRow::Cancelled(CancelledRow { booking: row, by })),
         None => Ok(PlaceRow::Booked(row)),
     }
 }

@@ -6,7 +6,7 @@ ghost use Rattle.mr_tables.specs.Change.{rows_without, id_before};
 ghost use Rattle.mr_tables.specs.TableOrders.{IsOrder, InOrder};
 ghost use Rattle.std.specs.Vec.{vec_len, vec_capacity};
 
-use mr_base::{RoomName, ServerId, WriteId};
+use mr_base::{RoomName, WriteId};
 use std::alloc::{AllocError, Global};
 
 /// A row of a table, whose key has its place in the order of the table's keys.
@@ -34,9 +34,9 @@ pub trait IdRow: TableRow {
 
     ghost room: { Self → Text };
 
-    /// The id of its write, as cells: the count may be out of range.
-    fn cells_of_id(&self) -> (ServerId, u32)
-        ensures { result ≡ ((id self.now).server, (id self.now).n) };
+    /// The id of its write.
+    fn write_id(&self) -> WriteId
+        ensures { result ≡ id self.now };
 
     /// Whether its write is of this room.
     fn is_in(&self, name: &RoomName) -> bool
@@ -80,7 +80,7 @@ fn is_of_any<R: IdRow>(row: &R, writes: &[WriteId]) -> bool
     ensures { result ≡ is_among (R.id row.now) writes.now }
 {
     for write in writes {
-        if row.cells_of_id() == (write.server, write.n) {
+        if row.write_id() == *write {
             return true;
         }
     }

@@ -14,21 +14,21 @@ returns-then-at-rows g c =
     let point = IsPartitionPoint-from_clause (λ r. id_before (key r) id) _ _ c.partition_point-at.ensures.partitioned (parted key id c.args.rows.now c.requires) (λ a r q k. search rules) in
     absent key id c.args.rows.now c.partition_point-at.result c.requires point (search rules)
 
-pub returns-then-is_same : goal.returns-then-is_same
-returns-then-is_same g c =
+pub returns-then-eq : goal.returns-then-eq
+returns-then-eq g c =
     let rows = c.args.rows.now in
     let row = c.index-rows-at.result in
     let within : c.partition_point-at.result < length rows = omega arith in (
       subst (λ r. Has r rows) (sym c.index-rows-at.is) (index_has rows c.partition_point-at.result row within),
-      sym c.row_id.ensures ∙ same_id-true c.row_id.result c.args.id (sym c.is_same.ensures ∙ c.if-is_same.true),
+      sym c.write_id.ensures ∙ same_id-true c.write_id.result c.args.id (sym c.eq.ensures ∙ c.if-eq.true),
     )
 
-pub returns-else-is_same : goal.returns-else-is_same
-returns-else-is_same g c =
+pub returns-else-eq : goal.returns-else-eq
+returns-else-eq g c =
     let key = g.R.IdRow.id in
     let id = c.args.id in
     let row = c.index-rows-at.result in
     let within : c.partition_point-at.result < length c.args.rows.now = omega arith in
     let point = IsPartitionPoint-from_clause (λ r. id_before (key r) id) _ _ c.partition_point-at.ensures.partitioned (parted key id c.args.rows.now c.requires) (λ a r q k. search rules) in
     other_there key id c.args.rows.now c.partition_point-at.result c.requires point row within
-    (ap (λ r. same_id (key r) id) (sym c.index-rows-at.is) ∙ ap (λ (i : Id). same_id i id) (sym c.row_id.ensures) ∙ sym c.is_same.ensures ∙ c.if-is_same.false)
+    (ap (λ r. same_id (key r) id) (sym c.index-rows-at.is) ∙ ap (λ (i : Id). same_id i id) (sym c.write_id.ensures) ∙ sym c.eq.ensures ∙ c.if-eq.false)

@@ -15,12 +15,12 @@ returns-in-Some c =
     let found = c.in-Some.cancel.now in
     let h = c.in-Some.ensures in
     c.is_same_cancel.ensures
-    ∙ sym (one_passes cancel_id (log_id c.args.row.now) (same_cancel row) (λ r e. id_first (cancel_id row) (cancel_id r) _ _ _ _ _ e) t.cancels found c.requires.cancels (subst (λ (rs : List CancelRow). Has found rs) rows h.0) (h.1 ∙ c.row_id.ensures))
+    ∙ sym (one_passes cancel_id (log_id c.args.row.now) (same_cancel row) (λ r e. id_first (cancel_id row) (cancel_id r) _ _ _ _ _ e) t.cancels found c.requires.cancels (subst (λ (rs : List CancelRow). Has found rs) rows h.0) (h.1 ∙ c.id.ensures))
 
 pub returns-in-None : goal.returns-in-None
 returns-in-None c =
     let t = c.args.tables.now in
     let row = cancelling_row c.args.row.now c.args.target c.args.done in
     let rows = c.deref.ensures.value ∙ ap (λ (u : Tables). u.cancels) c.tables.view_is in
-    let none : is_among (log_id c.args.row.now) (map cancel_id t.cancels) ≡ false = (λ i. is_among (sym c.row_id.ensures i) (map cancel_id (sym rows i))) ∙ c.in-None.ensures in
+    let none : is_among (log_id c.args.row.now) (map cancel_id t.cancels) ≡ false = (λ i. is_among (sym c.id.ensures i) (map cancel_id (sym rows i))) ∙ c.in-None.ensures in
     sym (none_passes cancel_id (log_id c.args.row.now) (same_cancel row) (λ r e. id_first (cancel_id row) (cancel_id r) _ _ _ _ _ e) t.cancels none)

@@ -15,13 +15,13 @@ returns-in-Some c =
     let rows = c.deref.ensures.value ∙ ap (λ (u : Tables). u.cancelled) c.tables.view_is in
     let found = c.in-Some.cancelled.now in
     let h = c.in-Some.ensures in
-    c.is_same_cancelled.ensures
-    ∙ sym (one_passes cancelled_id (log_id c.args.row.now) (λ r. same_booking row (as_booked r)) (λ r e. id_first (booking_id row) (cancelled_id r) _ _ _ _ _ e) t.cancelled found c.requires.cancelled (subst (λ (rs : List CancelledRow). Has found rs) rows h.0) (h.1 ∙ c.row_id.ensures))
+    (c.is_same_booking.ensures ∙ ap (λ (r : CancelledRow). same_booking row (as_booked r)) c.cancelled.view_is)
+    ∙ sym (one_passes cancelled_id (log_id c.args.row.now) (λ r. same_booking row (as_booked r)) (λ r e. id_first (booking_id row) (cancelled_id r) _ _ _ _ _ e) t.cancelled found c.requires.cancelled (subst (λ (rs : List CancelledRow). Has found rs) rows h.0) (h.1 ∙ c.id.ensures))
 
 pub returns-in-None : goal.returns-in-None
 returns-in-None c =
     let t = c.args.tables.now in
     let row = taken_row c.args.row.now c.args.cells.now (slot_in c.args.day.now c.args.time.now) in
     let rows = c.deref.ensures.value ∙ ap (λ (u : Tables). u.cancelled) c.tables.view_is in
-    let none : is_among (log_id c.args.row.now) (map cancelled_id t.cancelled) ≡ false = (λ i. is_among (sym c.row_id.ensures i) (map cancelled_id (sym rows i))) ∙ c.in-None.ensures in
+    let none : is_among (log_id c.args.row.now) (map cancelled_id t.cancelled) ≡ false = (λ i. is_among (sym c.id.ensures i) (map cancelled_id (sym rows i))) ∙ c.in-None.ensures in
     sym (none_passes cancelled_id (log_id c.args.row.now) (λ r. same_booking row (as_booked r)) (λ r e. id_first (booking_id row) (cancelled_id r) _ _ _ _ _ e) t.cancelled none)

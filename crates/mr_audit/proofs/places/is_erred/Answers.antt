@@ -16,12 +16,12 @@ returns-in-Some c =
     let found = c.in-Some.error.now in
     let h = c.in-Some.ensures in
     c.is_same_error.ensures
-    ∙ sym (one_passes error_id (log_id c.args.row.now) (same_error row) (λ r e. id_first_of_seven (error_id row) (error_id r) _ _ _ _ _ _ e) t.errorlog found c.requires.errorlog (subst (λ (rs : List ErrorRow). Has found rs) rows h.0) (h.1 ∙ c.row_id.ensures))
+    ∙ sym (one_passes error_id (log_id c.args.row.now) (same_error row) (λ r e. id_first_of_seven (error_id row) (error_id r) _ _ _ _ _ _ e) t.errorlog found c.requires.errorlog (subst (λ (rs : List ErrorRow). Has found rs) rows h.0) (h.1 ∙ c.id.ensures))
 
 pub returns-in-None : goal.returns-in-None
 returns-in-None c =
     let t = c.args.tables.now in
     let row = logged_row c.args.row.now c.args.cells.now (slot_in c.args.day.now c.args.time.now) in
     let rows = c.deref.ensures.value ∙ ap (λ (u : Tables). u.errorlog) c.tables.view_is in
-    let none : is_among (log_id c.args.row.now) (map error_id t.errorlog) ≡ false = (λ i. is_among (sym c.row_id.ensures i) (map error_id (sym rows i))) ∙ c.in-None.ensures in
+    let none : is_among (log_id c.args.row.now) (map error_id t.errorlog) ≡ false = (λ i. is_among (sym c.id.ensures i) (map error_id (sym rows i))) ∙ c.in-None.ensures in
     sym (none_passes error_id (log_id c.args.row.now) (same_error row) (λ r e. id_first_of_seven (error_id row) (error_id r) _ _ _ _ _ _ e) t.errorlog none)

@@ -3,7 +3,7 @@ use Rattle.std.proofs.Math.Bool.{or-false}
 use Rattle.std.proofs.lemmas.List.{drop_more, at_drop_all}
 use Rattle.std.specs.List.{list_any}
 use Rattle.std.specs.Prelude.{bytes_eq}
-use Rattle.mr_model.specs.Writes.{Stamp, Write, id_of}
+use Rattle.mr_model.specs.Writes.{Write, id_of}
 use Rattle.mr_part.specs.declared.kept_rows.KeptRow.{KeptRow}
 use Rattle.mr_part.specs.Sets.{has_id}
 use Rattle.mr_replay.specs.Seen.{has_room}
@@ -21,7 +21,7 @@ loop-row-preserved c = λ name.
     let old = has_room c.loop-row.rooms name in
     let new = c.add_if_named.new.rooms in
     let here = drop_more rows k row c.loop-row-test.true ∙ ap (λ x. x ∷ drop (k + 1) rows) (sym c.row-item.is) in
-    let added = c.in_ok-add_if_named.ensures.rooms name ∙ ap (λ (s : Stamp). (has_id c.args.ids.now (record { server = s.server; n = s.n }) && bytes_eq name c.write.inside.room) || old) c.stamp.view_is ∙ ap (λ (w : Write). is_its w || old) c.write.view_is in
+    let added = c.in_ok-add_if_named.ensures.rooms name ∙ (λ t. (has_id c.args.ids.now (c.id.ensures t) && bytes_eq name c.write.inside.room) || old) ∙ ap (λ (w : Write). (has_id c.args.ids.now (id_of row.write) && bytes_eq name w.room) || old) c.write.view_is in
     added_more (has_room new name) old (is_its row.write) (list_any its (drop (k + 1) rows)) all added
     (subst (λ left. (old || list_any its left) ≡ all) here (c.loop-row.invariant name))
 

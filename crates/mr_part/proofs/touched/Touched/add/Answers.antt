@@ -1,8 +1,6 @@
-use Rattle.std.proofs.Common.{◌≡◌, ◌∙◌, ◌&&◌, ◌||◌, ℕ, nat_lt, true, ap, sym, subst, arith}
+use Rattle.std.proofs.Common.{◌≡◌, ◌∙◌, ◌&&◌, ◌||◌, nat_lt, true, ap, sym, arith}
 use Rattle.std.proofs.lemmas.Bool.Decides.{nat_tests}
-use Rattle.std.specs.BTreeSet.{Updates}
-use Rattle.std.specs.Ordering.{nat_cmp, ordering_then}
-use Rattle.mr_model.specs.Writes.{Id, same_id}
+use Rattle.mr_model.specs.Writes.{same_id}
 use Rattle.mr_base.specs.Batches.{item_of}
 use Rattle.mr_part.specs.Sets.{has_id}
 use Rattle.mr_part.specs.Touched.{commits_id}
@@ -17,7 +15,6 @@ returns-in_ok-insert-in-C-clause-committed c = λ id.
     let number = c.number.ensures.value in
     let above = c.if-number-commits.true in
     let unknown : nat_lt c.args.commits c.in-C.seq ≡ true = grind (arith, nat_tests) in
-    let updates = subst (λ (i : Id). Updates (λ (x y : ℕ × ℕ). ordering_then (nat_cmp x.0 y.0) (nat_cmp x.1 y.1)) old new (i.server, i.n) true) c.id.view_is c.in_ok-insert-in-C.ensures.updates in
-    id_more old new other id updates
+    id_more old new other id c.in_ok-insert-in-C.ensures.updates
     ∙ (λ t. (sym unknown t && same_id other id) || has_id old id)
     ∙ ap (λ x. commits_id c.args.commits id (item_of x) || has_id old id) (sym c.in-C.is)
