@@ -8,7 +8,7 @@ use Rattle.sqlite.specs.Command.TheVariants.{Delete}
 use Rattle.sqlite.specs.declared.error.Error.{Error}
 use Rattle.sqlite.specs.Listing.{understood}
 use Rattle.sqlite.specs.Rows.{Task}
-use Rattle.sqlite.specs.Does.{Does}
+use Rattle.sqlite.specs.Does.{Does, OnRows}
 use Rattle.sqlite.specs.State.{State, HasCleanDisk, Survives, mode_of, ExecutesInside}
 use Rattle.sqlite.proofs.Callers.{statement_of, runs_as}
 use Rattle.mr_rows.specs.Schema.{first_schema}
@@ -16,13 +16,14 @@ use Rattle.mr_rows.specs.Shelf.{IsShelf}
 use Rattle.mr_rows.specs.Form.{Form}
 use Rattle.mr_rows.proofs.StatementMeaning.{MeansIn, program_of}
 use Rattle.mr_rows.proofs.FormLemmas.{deletes}
-use Rattle.mr_rows.proofs.TableLemmas.{Facts}
+use Rattle.mr_rows.proofs.TableLemmas.{Facts, on_table}
 use Rattle.mr_rows.proofs.StepLemmas.{clean_before}
 use Rattle.mr_first.specs.Forms.{first_meta_form, write_form, undo_form}
 use Rattle.mr_first.specs.FirstDatabase.{IsFirst}
 use Rattle.mr_first.specs.MoveUpSteps.{IsCleared, IsEmptied}
 use Rattle.mr_first.proofs.FirstStatementMeaning.{clear_meta_text, clear_meta_is, clear_write_text, clear_write_is, clear_undo_text, clear_undo_is}
-use Rattle.mr_first.proofs.Facts.{meta_facts, write_facts, undo_facts}
+use Rattle.mr_rows.proofs.TableFacts.{meta_facts_first}
+use Rattle.mr_first.proofs.Facts.{write_facts, undo_facts}
 use Rattle.mr_first.proofs.FirstSteps.{no_index-0, no_index-2, no_index-4, no_index-6, no_index-8, no_index-10, no_index-12}
 
 none_left : (rows : List Row) → filter (λ _. false) rows ≡ []
@@ -40,7 +41,7 @@ clears f facts text old new (Ok count) means schema shelf h =
     let whole = statement_of text (understood first_schema text) in
     let done = subst (λ s. Does old.step_limit (mode_of old) [] (record old.now { schema = s }) whole None command (Ok (w.tally, new.now))) schema w.changed in
     let task : Task = record { limit = old.step_limit; keys = Enforced; schema = first_schema; table = f.table; params = [] } in
-    let on = facts.on_taken old.step_limit (mode_of old) [] old.now.trees whole program (Ok (w.tally, new.now)) done in
+    let on = on_table f.table facts.place old.step_limit (mode_of old) [] old.now.trees (λ task. OnRows task (mode_of old) None command old.now.trees) (Ok (w.tally, new.now)) facts.stands done in
     let left = deletes task (mode_of old) facts.free facts.place [] program old.now.trees w.tally new.now refl (facts.alone old.now.trees) shelf on in
     record {
       schema = left.schema;
@@ -51,8 +52,8 @@ clears f facts text old new (Ok count) means schema shelf h =
     }
 
 pub clears_meta : (old new : State) (r : Result ℕ Error) → old.now.schema ≡ first_schema → IsShelf (old.now.trees 0) → ExecutesInside 0 clear_meta_text [] old new r → OnOk r (IsCleared 0 old new)
-unfolding meta_facts
-clears_meta old new r = clears first_meta_form meta_facts clear_meta_text old new r clear_meta_is
+unfolding meta_facts_first
+clears_meta old new r = clears first_meta_form (meta_facts_first 1) clear_meta_text old new r clear_meta_is
 
 pub clears_write : (old new : State) (r : Result ℕ Error) → old.now.schema ≡ first_schema → IsShelf (old.now.trees 6) → ExecutesInside 0 clear_write_text [] old new r → OnOk r (IsCleared 6 old new)
 unfolding write_facts

@@ -30,7 +30,8 @@ use Rattle.mr_first.specs.Forms.{first_meta_form, write_form, undo_form}
 use Rattle.mr_first.specs.FirstDatabase.{AreHeldFirst, first_in}
 use Rattle.mr_first.specs.FirstShown.{AreFirstRows}
 use Rattle.mr_first.specs.MovedUp.{CanMoveUp}
-use Rattle.mr_first.proofs.Facts.{room_facts, vector_facts, write_facts, undo_facts, booking_facts, error_facts}
+use Rattle.mr_rows.proofs.TableFacts.{room_facts, vector_facts, booking_facts, error_facts}
+use Rattle.mr_first.proofs.Facts.{write_facts, undo_facts}
 use Rattle.mr_first.proofs.PairLemmas.{replicas_paired}
 
 -- ---- one write

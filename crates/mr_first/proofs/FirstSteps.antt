@@ -1,19 +1,23 @@
 -- What a step on one table makes of the first tables, and steps one after another.
-use Rattle.std.proofs.Common.{◌≡◌, ℕ, List, [], ◌∷◌, ◌+◌, ◌<◌, ◌≤◌, length, drop, get_or, refl, sym, ap, subst, ◌∙◌}
+use Rattle.std.proofs.Common.{◌≡◌, inr, ℕ, Result, List, [], ◌∷◌, ◌+◌, ◌<◌, ◌≤◌, length, drop, get_or, refl, sym, ap, subst, ◌∙◌}
 use Rattle.std.proofs.lemmas.List.{drop_more, drop_all}
 use Rattle.sqlite_trees.specs.Tree.{Trees}
 use Rattle.sqlite_rules.specs.Edit.{IsNoIndex}
 use Rattle.sqlite.specs.State.{State, HasCleanDisk, KeepsCommit, Survives}
-use Rattle.mr_model.specs.Texts.{Text}
-use Rattle.mr_model.specs.Tables.{MetaRow, VectorRow, BookingRow, ErrorRow}
-use Rattle.mr_model.specs.First.{WriteRow, FirstUndoRow, FirstTables}
-use Rattle.mr_rows.specs.Schema.{first_schema}
+use Rattle.mr_model.specs.Tables.{MetaRow}
+use Rattle.mr_model.specs.First.{FirstTables}
+use Rattle.mr_rows.specs.Schema.{first_schema, IsOfTwo}
+use Rattle.sqlite_schema.specs.declared.schema.Schema.{Schema}
+use Rattle.sqlite.specs.declared.error.Error.{Error}
+use Rattle.std.proofs.lemmas.Result.{on_ok_weaker}
+use Rattle.mr_first.specs.FirstParts.{put_first_meta}
 use Rattle.mr_rows.specs.Form.{Form, room_form, vector_form, booking_form, error_form}
 use Rattle.mr_rows.specs.Database.{IsHeld, first_meta, in_order}
-use Rattle.mr_rows.proofs.TableLemmas.{overlaid, Turns}
-use Rattle.mr_rows.proofs.StepLemmas.{none_of, keeps_then, clean_before}
+use Rattle.mr_rows.specs.TableSteps.{overlaid, Turns, PutsRow, IsTableOf, rows_put}
+use Rattle.mr_tables.specs.Change.{put}
+use Rattle.mr_rows.proofs.StepLemmas.{none_of, keeps_then, clean_before, first_put}
 use Rattle.mr_first.specs.Forms.{first_meta_form, write_form, undo_form}
-use Rattle.mr_first.specs.FirstDatabase.{AreHeldFirst, IsFirst, IsFirstStep, IsAskedFirst, IsFirstUnderWay, first_in}
+use Rattle.mr_first.specs.FirstDatabase.{AreHeldFirst, IsFirst, IsFirstStep, IsAskedFirst, MakesFirst, IsFirstUnderWay, first_in}
 
 -- ---- the tables lie in trees that are no indexes
 
@@ -73,56 +77,44 @@ held_same a b same held = record {
 }
 
 -- where one table turns, the others stay
-step_of : {R K : Type 0} (f : Form R K) (old new : State) (xs : List R) (t : FirstTables) (turns : Turns first_schema f old new xs) → AreHeldFirst (overlaid old.now.trees f.table.tree turns.rows)
-    → first_in (overlaid old.now.trees f.table.tree turns.rows) ≡ t → IsFirstStep old new t
-step_of f old new xs t turns held tables = record {
-  ours = record { schema = turns.schema; held = held_same _ _ turns.trees held };
-  tables_are = tables_same _ _ turns.trees ∙ tables;
+steps : {R K : Type 0} (f : Form R K) (rows_of : FirstTables → List R) (with_rows : List R → FirstTables → FirstTables) → IsTableOf AreHeldFirst first_in f rows_of with_rows → (old new : State) (xs : List R) → IsFirst old.now → Turns first_schema f old new xs
+    → IsFirstStep old new (with_rows xs (first_in old.now.trees))
+steps f rows_of with_rows is old new xs first turns = record {
+  ours = record { schema = turns.schema; held = held_same _ _ turns.trees (is.held old.now.trees turns.rows first.held turns.held) };
+  tables_are = tables_same _ _ turns.trees ∙ is.made old.now.trees turns.rows ∙ ap (λ ys. with_rows ys (first_in old.now.trees)) turns.rows_are;
   committed = turns.committed;
   within = turns.within;
 }
 
-pub meta_step : (old new : State) (xs : List MetaRow) → IsFirst old.now → Turns first_schema first_meta_form old new xs → IsFirstStep old new (record (first_in old.now.trees) { meta = first_meta xs })
+-- so a row that is put into one is put into all
+pub makes_put : {R K X : Type 0} (f : Form R K) (rows_of : FirstTables → List R) (with_rows : List R → FirstTables → FirstTables) → IsTableOf AreHeldFirst first_in f rows_of with_rows → (Stands : Schema → Type 0) → Stands first_schema
+    → (old new : State) (x : R) (r : Result X Error) → PutsRow Stands f x old new r → MakesFirst old new (rows_put f rows_of with_rows (x ∷ []) (first_in old.now.trees)) r
+makes_put f rows_of with_rows is Stands stands old new x r puts = (
+  λ asked.
+      on_ok_weaker r
+      (λ done. subst (λ rows. IsFirstStep old new (with_rows (put f.before f.key x rows) (first_in old.now.trees))) (sym (is.read old.now.trees)) (steps f rows_of with_rows is old new _ asked.2 done))
+      (puts.0 first_schema stands asked.0 asked.1 asked.2.schema (is.was old.now.trees asked.2.held)),
+  puts.1,
+)
+
+meta_step : (old new : State) (xs : List MetaRow) → IsFirst old.now → Turns first_schema first_meta_form old new xs → IsFirstStep old new (record (first_in old.now.trees) { meta = first_meta xs })
 unfolding first_in
 meta_step old new xs first turns =
     let was = first.held in
-    step_of first_meta_form old new xs _ turns (record { meta = turns.held; room = was.room; vector = was.vector; write_log = was.write_log; undo = was.undo; booking = was.booking; errorlog = was.errorlog }) (ap (λ ys. record (first_in old.now.trees) { meta = first_meta ys }) turns.rows_are)
+    record {
+      ours = record { schema = turns.schema; held = held_same _ (overlaid old.now.trees 0 turns.rows) turns.trees (record { meta = turns.held; room = was.room; vector = was.vector; write_log = was.write_log; undo = was.undo; booking = was.booking; errorlog = was.errorlog }) };
+      tables_are = tables_same _ (overlaid old.now.trees 0 turns.rows) turns.trees ∙ ap (λ ys. record (first_in old.now.trees) { meta = first_meta ys }) turns.rows_are;
+      committed = turns.committed;
+      within = turns.within;
+    }
 
-pub room_step : (old new : State) (xs : List Text) → IsFirst old.now → Turns first_schema room_form old new xs → IsFirstStep old new (record (first_in old.now.trees) { room = xs })
-unfolding first_in
-room_step old new xs first turns =
-    let was = first.held in
-    step_of room_form old new xs _ turns (record { meta = was.meta; room = turns.held; vector = was.vector; write_log = was.write_log; undo = was.undo; booking = was.booking; errorlog = was.errorlog }) (ap (λ ys. record (first_in old.now.trees) { room = ys }) turns.rows_are)
-
-pub vector_step : (old new : State) (xs : List VectorRow) → IsFirst old.now → Turns first_schema vector_form old new xs → IsFirstStep old new (record (first_in old.now.trees) { vector = xs })
-unfolding first_in
-vector_step old new xs first turns =
-    let was = first.held in
-    step_of vector_form old new xs _ turns (record { meta = was.meta; room = was.room; vector = turns.held; write_log = was.write_log; undo = was.undo; booking = was.booking; errorlog = was.errorlog }) (ap (λ ys. record (first_in old.now.trees) { vector = ys }) turns.rows_are)
-
-pub write_step : (old new : State) (xs : List WriteRow) → IsFirst old.now → Turns first_schema write_form old new xs → IsFirstStep old new (record (first_in old.now.trees) { write_log = xs })
-unfolding first_in
-write_step old new xs first turns =
-    let was = first.held in
-    step_of write_form old new xs _ turns (record { meta = was.meta; room = was.room; vector = was.vector; write_log = turns.held; undo = was.undo; booking = was.booking; errorlog = was.errorlog }) (ap (λ ys. record (first_in old.now.trees) { write_log = ys }) turns.rows_are)
-
-pub undo_step : (old new : State) (xs : List FirstUndoRow) → IsFirst old.now → Turns first_schema undo_form old new xs → IsFirstStep old new (record (first_in old.now.trees) { undo = xs })
-unfolding first_in
-undo_step old new xs first turns =
-    let was = first.held in
-    step_of undo_form old new xs _ turns (record { meta = was.meta; room = was.room; vector = was.vector; write_log = was.write_log; undo = turns.held; booking = was.booking; errorlog = was.errorlog }) (ap (λ ys. record (first_in old.now.trees) { undo = ys }) turns.rows_are)
-
-pub booking_step : (old new : State) (xs : List BookingRow) → IsFirst old.now → Turns first_schema booking_form old new xs → IsFirstStep old new (record (first_in old.now.trees) { booking = xs })
-unfolding first_in
-booking_step old new xs first turns =
-    let was = first.held in
-    step_of booking_form old new xs _ turns (record { meta = was.meta; room = was.room; vector = was.vector; write_log = was.write_log; undo = was.undo; booking = turns.held; errorlog = was.errorlog }) (ap (λ ys. record (first_in old.now.trees) { booking = ys }) turns.rows_are)
-
-pub error_step : (old new : State) (xs : List ErrorRow) → IsFirst old.now → Turns first_schema error_form old new xs → IsFirstStep old new (record (first_in old.now.trees) { errorlog = xs })
-unfolding first_in
-error_step old new xs first turns =
-    let was = first.held in
-    step_of error_form old new xs _ turns (record { meta = was.meta; room = was.room; vector = was.vector; write_log = was.write_log; undo = was.undo; booking = was.booking; errorlog = turns.held }) (ap (λ ys. record (first_in old.now.trees) { errorlog = ys }) turns.rows_are)
+pub makes_meta : {X : Type 0} (old new : State) (x : MetaRow) (r : Result X Error) → PutsRow IsOfTwo first_meta_form x old new r → MakesFirst old new (put_first_meta x (first_in old.now.trees)) r
+makes_meta old new x r puts = (
+  λ asked.
+      on_ok_weaker r (λ turns. subst (λ m. IsFirstStep old new (put_first_meta m (first_in old.now.trees))) (first_put x _) (meta_step old new _ asked.2 turns))
+      (puts.0 first_schema (inr refl) asked.0 asked.1 asked.2.schema asked.2.held.meta),
+  puts.1,
+)
 
 -- ---- one after another
 

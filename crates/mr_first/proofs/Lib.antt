@@ -1,7 +1,6 @@
 pub mod FirstStatementMeaning
 pub mod Facts
 pub mod FirstSteps
-pub mod Statements
 pub mod ClearLemmas
 pub mod MakeLemmas
 pub mod ReadLemmas

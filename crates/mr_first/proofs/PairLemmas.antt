@@ -1,5 +1,5 @@
 -- Rows of both logs, paired, are the log that takes their place.
-use Rattle.std.proofs.Common.{◌≡◌, ℕ, ◌<◌, zero, suc, List, [], ◌∷◌, ◌++◌, map, length, take, get_or, true, Bool, ◌&&◌, ◌==◌, inl, inr, Some, None, Option, refl, sym, ap, subst, ◌∙◌, arith, eqb-true, eq-eqb}
+use Rattle.std.proofs.Common.{◌≡◌, ℕ, ◌<◌, zero, suc, List, [], ◌∷◌, ◌++◌, map, length, take, get_or, true, Bool, inl, inr, Some, None, refl, sym, ap, subst, ◌∙◌, arith}
 use Rattle.std.specs.Prelude.{option_map}
 use Rattle.std.specs.List.{cons_option, AllByRecursion}
 use Rattle.std.proofs.lemmas.List.{get_or-map, map-append}

@@ -5,15 +5,10 @@ use Rattle.sqlite_value.specs.declared.value.Value.TheVariants.{Null, Int, Real,
 use Rattle.sqlite_value.specs.Order.{Row, column, bytes}
 use Rattle.mr_model.specs.Writes.{is_server, is_count, is_time, is_room_name, is_title, is_length}
 use Rattle.mr_model.specs.Replay.{Place, Taken, Logged, Done, Void}
-use Rattle.mr_model.specs.Tables.{MetaRow}
 use Rattle.mr_model.specs.First.{WriteRow, FirstUndoRow}
-use Rattle.mr_rows.specs.RowCells.{meta_cells_of, nat_of, whole_of, place_number, place_in}
+use Rattle.mr_rows.specs.RowCells.{nat_of, whole_of, place_number, place_in}
 use Rattle.mr_rows.specs.RowLimits.{is_choices, is_commit}
 use Rattle.mr_rows.specs.CellLimits.{is_number, is_text, is_time_cell, is_commit_cell, is_id_cells}
-
--- the second cell is the number of the schema
-abbrev pub first_meta_cells : MetaRow → Row
-first_meta_cells m = meta_cells_of 1 m
 
 abbrev pub write_cells : WriteRow → Row
 write_cells w = Int (pos w.server) ∷ Int (pos w.n) ∷ Int (pos w.time) ∷ Text w.room ∷ Int (pos w.length) ∷ Text w.choices ∷ Text w.title ∷ Int (pos w.seq) ∷ []

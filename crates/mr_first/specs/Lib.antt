@@ -2,6 +2,7 @@
 pub mod FirstCells
 pub mod Forms
 pub mod FirstDatabase
+pub mod FirstTables
 pub mod FirstParts
 pub mod FirstShown
 pub mod MovedUp

@@ -9,8 +9,7 @@ use Rattle.mr_model.specs.First.{WriteRow, FirstUndoRow, FirstTables, StandsFirs
 use Rattle.mr_model.specs.Changes.{AreInKeyOrder}
 use Rattle.mr_agree.specs.Agreeing.{agree}
 use Rattle.mr_rows.specs.Database.{IsApplied, tables_in}
-use Rattle.mr_rows.specs.Shown.{AreStoredAs}
-use Rattle.mr_first.specs.Forms.{write_id, undo_id, first_meta_form, write_form, undo_form}
+use Rattle.mr_first.specs.Forms.{write_id, undo_id}
 use Rattle.mr_first.specs.FirstDatabase.{AreHeldFirst, IsKeptFirst, first_in}
 use Rattle.mr_first.specs.FirstShown.{AreFirstRows}
 

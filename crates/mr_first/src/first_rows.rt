@@ -1,89 +1,83 @@
-ghost use Rattle.std.specs.Prelude.{◌≡◌, [], ◌∷◌, List, refl};
-ghost use Rattle.sqlite.specs.State.{Survives};
-ghost use Rattle.sqlite.specs.Held.{state};
+ghost use Rattle.std.proofs.Common.{inr};
+ghost use Rattle.std.specs.Prelude.{◌≡◌, List, refl};
 ghost use Rattle.mr_model.specs.First.{FirstTables};
-ghost use Rattle.mr_first.specs.FirstDatabase.{MakesFirst, first_in};
-ghost use Rattle.mr_first.specs.FirstParts.{put_first_rooms, put_first_vector, put_first_bookings, put_first_errors};
+ghost use Rattle.mr_rows.specs.Schema.{first_schema};
+ghost use Rattle.mr_rows.specs.TableSteps.{IsTableOf};
+ghost use Rattle.mr_first.specs.FirstDatabase.{AreHeldFirst, first_in};
+ghost use Rattle.mr_first.specs.FirstTables.{room_is, vector_is, write_is, undo_is, booking_is, error_is};
 
-use crate::puts::{put_booking_cells, put_error_cells};
+use crate::rows::{FirstUndoRow, WriteRow};
 use mr_base::RoomName;
 use mr_rows::StoredRow;
-use mr_rows::numbers::Number;
-use mr_rows::puts::day_text;
 use mr_tables::{BookingRow, ErrorRow, VectorRow};
-use sqlite::{Alter, Error, Transaction, params};
-use std::alloc::Global;
 
 /// A row of a table of the first schema.
 pub trait FirstRow: StoredRow {
-    // the tables with these rows put, one after the other
-    ghost put_in: { List Self → FirstTables → FirstTables };
+    ghost rows_of: { FirstTables → List Self };
 
-    /// Puts the row in place of the one with its key, if there is one.
-    fn put<S: Alter>(&self, tx: &mut Transaction<'_, S>, alloc: Global) -> Result<usize, Error>
-        ensures same_reference { tx.new.conn.ghost_name ≡ tx.old.conn.ghost_name }
-        ensures put { MakesFirst (state S.Store tx.old.conn.now) (state S.Store tx.new.conn.now)
-            (put_in (self.now ∷ []) (first_in (state S.Store tx.old.conn.now).now.trees)) result }
-        ensures survives { Survives (state S.Store tx.old.conn.now) (state S.Store tx.new.conn.now) (λ _. ⊥) };
+    ghost with_rows: { List Self → FirstTables → FirstTables };
 
-    ghost put_none: { (t : FirstTables) → put_in [] t ≡ t };
+    ghost is_first: { IsTableOf AreHeldFirst first_in Self.StoredRow.form rows_of with_rows };
 
-    ghost put_more: { (x : Self) (xs : List Self) (t : FirstTables) → put_in (x ∷ xs) t ≡ put_in xs (put_in (x ∷ []) t) };
+    ghost stands: { Self.StoredRow.stands_in first_schema };
 }
 
 impl FirstRow for RoomName {
-    ghost put_in = { put_first_rooms };
+    ghost rows_of = { λ t. t.room };
 
-    fn put<S: Alter>(&self, tx: &mut Transaction<'_, S>, _alloc: Global) -> Result<usize, Error> {
-        tx.execute(
-            "INSERT OR REPLACE INTO room (name) VALUES (?1)",
-            params![self.as_str()],
-        )
-    }
+    ghost with_rows = { λ xs t. record t { room = xs } };
 
-    ghost put_none = { λ t. refl };
+    ghost is_first = { room_is };
 
-    ghost put_more = { λ x xs t. refl };
+    ghost stands = { inr refl };
 }
 
 impl FirstRow for VectorRow {
-    ghost put_in = { put_first_vector };
+    ghost rows_of = { λ t. t.vector };
 
-    fn put<S: Alter>(&self, tx: &mut Transaction<'_, S>, _alloc: Global) -> Result<usize, Error> {
-        let time = Number::new(self.last_time, 2)?;
-        tx.execute(
-            "INSERT OR REPLACE INTO vector (server, n, tm, committed) VALUES (?1, ?2, ?3, ?4)",
-            params![self.server.number(), self.count, time, self.committed],
-        )
-    }
+    ghost with_rows = { λ xs t. record t { vector = xs } };
 
-    ghost put_none = { λ t. refl };
+    ghost is_first = { vector_is };
 
-    ghost put_more = { λ x xs t. refl };
+    ghost stands = { inr refl };
+}
+
+impl FirstRow for WriteRow {
+    ghost rows_of = { λ t. t.write_log };
+
+    ghost with_rows = { λ xs t. record t { write_log = xs } };
+
+    ghost is_first = { write_is };
+
+    ghost stands = { refl };
+}
+
+impl FirstRow for FirstUndoRow {
+    ghost rows_of = { λ t. t.undo };
+
+    ghost with_rows = { λ xs t. record t { undo = xs } };
+
+    ghost is_first = { undo_is };
+
+    ghost stands = { refl };
 }
 
 impl FirstRow for BookingRow {
-    ghost put_in = { put_first_bookings };
+    ghost rows_of = { λ t. t.booking };
 
-    fn put<S: Alter>(&self, tx: &mut Transaction<'_, S>, alloc: Global) -> Result<usize, Error> {
-        let day = day_text(alloc, self.day)?;
-        put_booking_cells(tx, self, &day)
-    }
+    ghost with_rows = { λ xs t. record t { booking = xs } };
 
-    ghost put_none = { λ t. refl };
+    ghost is_first = { booking_is };
 
-    ghost put_more = { λ x xs t. refl };
+    ghost stands = { inr refl };
 }
 
 impl FirstRow for ErrorRow {
-    ghost put_in = { put_first_errors };
+    ghost rows_of = { λ t. t.errorlog };
 
-    fn put<S: Alter>(&self, tx: &mut Transaction<'_, S>, alloc: Global) -> Result<usize, Error> {
-        let day = day_text(alloc, self.day)?;
-        put_error_cells(tx, self, &day)
-    }
+    ghost with_rows = { λ xs t. record t { errorlog = xs } };
 
-    ghost put_none = { λ t. refl };
+    ghost is_first = { error_is };
 
-    ghost put_more = { λ x xs t. refl };
+    ghost stands = { inr refl };
 }

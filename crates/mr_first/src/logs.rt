@@ -8,10 +8,8 @@ ghost use Rattle.mr_rows.specs.Schema.{first_schema};
 ghost use Rattle.mr_rows.specs.RowCells.{nat_of};
 ghost use Rattle.mr_first.specs.FirstCells.{write_row_from, undo_in, are_first_meeting_cells, are_write_cells, are_undo_cells};
 ghost use Rattle.mr_first.specs.Forms.{write_id, undo_id, write_form, undo_form};
-ghost use Rattle.mr_first.specs.FirstParts.{put_writes, put_undo};
 
 use crate::cells::read_first_place;
-use crate::first_rows::FirstRow;
 use crate::rows::{FirstUndoRow, WriteRow};
 use mr_base::MINUTES_OF_A_DAY;
 use mr_rows::StoredRow;
@@ -37,7 +35,7 @@ impl TableRow for WriteRow {
     ghost order = { id_order };
 
     fn is_before(&self, other: &WriteRow) -> bool {
-        is_id_before((self.server, self.n), (other.server, other.n))
+        is_id_before(self.id(), other.id())
     }
 
     fn copied(&self, alloc: Global) -> Result<WriteRow, AllocError> {
@@ -74,16 +72,6 @@ impl StoredRow for WriteRow {
         passes(has_write(row))
     }
 
-    ghost shown_as = { λ r. refl };
-
-    ghost order = { id_order };
-
-    ghost ordered = { λ a b. refl };
-}
-
-impl FirstRow for WriteRow {
-    ghost put_in = { put_writes };
-
     fn put<S: Alter>(&self, tx: &mut Transaction<'_, S>, _alloc: Global) -> Result<usize, Error> {
         let time = Number::new(self.time, 2)?;
         let seq = Number::new(self.seq, 7)?;
@@ -103,9 +91,11 @@ impl FirstRow for WriteRow {
         )
     }
 
-    ghost put_none = { λ t. refl };
+    ghost shown_as = { λ r. refl };
 
-    ghost put_more = { λ x xs t. refl };
+    ghost order = { id_order };
+
+    ghost ordered = { λ a b. refl };
 }
 
 fn read_write(alloc: Global, row: &Row) -> Result<WriteRow, Error>
@@ -155,7 +145,7 @@ impl TableRow for FirstUndoRow {
     ghost order = { id_order };
 
     fn is_before(&self, other: &FirstUndoRow) -> bool {
-        is_id_before((self.server, self.n), (other.server, other.n))
+        is_id_before(self.id(), other.id())
     }
 
     fn copied(&self, _alloc: Global) -> Result<FirstUndoRow, AllocError> {
@@ -182,16 +172,6 @@ impl StoredRow for FirstUndoRow {
         passes(has_undo(row))
     }
 
-    ghost shown_as = { λ r. refl };
-
-    ghost order = { id_order };
-
-    ghost ordered = { λ a b. refl };
-}
-
-impl FirstRow for FirstUndoRow {
-    ghost put_in = { put_undo };
-
     fn put<S: Alter>(&self, tx: &mut Transaction<'_, S>, _alloc: Global) -> Result<usize, Error> {
         tx.execute(
             "INSERT OR REPLACE INTO undo (server, n, place) VALUES (?1, ?2, ?3)",
@@ -203,9 +183,11 @@ impl FirstRow for FirstUndoRow {
         )
     }
 
-    ghost put_none = { λ t. refl };
+    ghost shown_as = { λ r. refl };
 
-    ghost put_more = { λ x xs t. refl };
+    ghost order = { id_order };
+
+    ghost ordered = { λ a b. refl };
 }
 
 fn read_undo(row: &Row) -> Result<FirstUndoRow, Error>

@@ -16,7 +16,7 @@ fn are_of_one(row: &WriteRow, undo: &FirstUndoRow) -> bool
     ensures same { IsTrue result → write_id row.now ≡ undo_id undo.now }
     ensures other { result ≡ false → write_id row.now ≢ undo_id undo.now }
 {
-    row.server == undo.server && row.n == undo.n
+    row.id() == undo.id()
 }
 
 /// The row of the one log that takes the place of both.

@@ -1,18 +1,18 @@
-ghost use Rattle.std.specs.Prelude.{◌≡◌, ◌↔◌, [], ◌∷◌, IsTrue};
+ghost use Rattle.std.specs.Prelude.{◌≡◌, ◌↔◌, IsTrue};
 ghost use Rattle.sqlite.specs.State.{Survives};
 ghost use Rattle.sqlite.specs.Held.{state};
-ghost use Rattle.mr_model.specs.Calendar.{is_date, date_text};
 ghost use Rattle.mr_tables.specs.Rise.{Rise};
+ghost use Rattle.mr_rows.specs.TableSteps.{rows_put};
 ghost use Rattle.mr_first.specs.FirstDatabase.{MakesFirst, first_in};
-ghost use Rattle.mr_first.specs.FirstParts.{put_first_meta as with_meta, put_first_bookings, put_first_errors, first_heads_put, logs_put, first_board_put, tables_put, AreFirstKeysRising};
+ghost use Rattle.mr_first.specs.FirstParts.{put_first_meta as with_meta, first_heads_put, logs_put, first_board_put, tables_put, AreFirstKeysRising};
 
 use crate::first_rows::FirstRow;
 use crate::rows::{FirstUndoRow, WriteRow};
 use crate::tables::First;
 use mr_base::RoomName;
-use mr_rows::numbers::Number;
+use mr_rows::puts::put_meta_of;
 use mr_tables::{BookingRow, ErrorRow, MetaRow, TableRow, VectorRow};
-use sqlite::{Alter, Error, Transaction, params};
+use sqlite::{Alter, Error, Transaction};
 use std::alloc::Global;
 
 fn put_meta<S: Alter>(tx: &mut Transaction<'_, S>, row: &MetaRow) -> Result<usize, Error>
@@ -21,78 +21,7 @@ fn put_meta<S: Alter>(tx: &mut Transaction<'_, S>, row: &MetaRow) -> Result<usiz
         (with_meta row.now (first_in (state S.Store tx.old.conn.now).now.trees)) result }
     ensures survives { Survives (state S.Store tx.old.conn.now) (state S.Store tx.new.conn.now) (λ _. ⊥) }
 {
-    let commits = Number::new(row.commits, 4)?;
-    let dropped = Number::new(row.dropped, 5)?;
-    let clock = Number::new(row.clock, 6)?;
-    tx.execute(
-        "INSERT OR REPLACE INTO meta (one, schema, server, prim, commits, dropped, clock) VALUES (?1, ?2, ?3, ?4, ?5, ?6, ?7)",
-        params![
-            1u32,
-            1u32,
-            row.server.number(),
-            row.primary.number(),
-            commits,
-            dropped,
-            clock
-        ],
-    )
-}
-
-pub(crate) fn put_booking_cells<S: Alter>(
-    tx: &mut Transaction<'_, S>,
-    row: &BookingRow,
-    day: &str,
-) -> Result<usize, Error>
-    requires day { day.now ≡ date_text row.now.day }
-    requires is_date { IsTrue (is_date row.now.day) }
-    ensures same_reference { tx.new.conn.ghost_name ≡ tx.old.conn.ghost_name }
-    ensures put { MakesFirst (state S.Store tx.old.conn.now) (state S.Store tx.new.conn.now)
-        (put_first_bookings (row.now ∷ []) (first_in (state S.Store tx.old.conn.now).now.trees)) result }
-    ensures survives { Survives (state S.Store tx.old.conn.now) (state S.Store tx.new.conn.now) (λ _. ⊥) }
-{
-    tx.execute(
-        "INSERT OR REPLACE INTO booking (room, day, start, stop, server, n, title, committed) VALUES (?1, ?2, ?3, ?4, ?5, ?6, ?7, ?8)",
-        params![
-            row.room.as_str(),
-            day,
-            row.start,
-            row.stop,
-            row.server.number(),
-            row.n,
-            row.title.as_str(),
-            row.committed
-        ],
-    )
-}
-
-pub(crate) fn put_error_cells<S: Alter>(
-    tx: &mut Transaction<'_, S>,
-    row: &ErrorRow,
-    day: &str,
-) -> Result<usize, Error>
-    requires day { day.now ≡ date_text row.now.day }
-    requires is_date { IsTrue (is_date row.now.day) }
-    ensures same_reference { tx.new.conn.ghost_name ≡ tx.old.conn.ghost_name }
-    ensures put { MakesFirst (state S.Store tx.old.conn.now) (state S.Store tx.new.conn.now)
-        (put_first_errors (row.now ∷ []) (first_in (state S.Store tx.old.conn.now).now.trees)) result }
-    ensures survives { Survives (state S.Store tx.old.conn.now) (state S.Store tx.new.conn.now) (λ _. ⊥) }
-{
-    let time = Number::new(row.time, 7)?;
-    let seq = Number::new(row.seq, 8)?;
-    tx.execute(
-        "INSERT OR REPLACE INTO errorlog (room, day, start, stop, server, n, title, tm, seq) VALUES (?1, ?2, ?3, ?4, ?5, ?6, ?7, ?8, ?9)",
-        params![
-            row.room.as_str(),
-            day,
-            row.start,
-            row.stop,
-            row.server.number(),
-            row.n,
-            row.title.as_str(),
-            time,
-            seq
-        ],
-    )
+    put_meta_of(tx, row, 1)
 }
 
 fn put_all<R: FirstRow, S: Alter>(
@@ -102,7 +31,7 @@ fn put_all<R: FirstRow, S: Alter>(
 ) -> Result<(), Error>
     ensures same_reference { tx.new.conn.ghost_name ≡ tx.old.conn.ghost_name }
     ensures made { MakesFirst (state S.Store tx.old.conn.now) (state S.Store tx.new.conn.now)
-        (R.put_in rows.now (first_in (state S.Store tx.old.conn.now).now.trees)) result }
+        (rows_put R.form R.rows_of R.with_rows rows.now (first_in (state S.Store tx.old.conn.now).now.trees)) result }
     ensures survives { Survives (state S.Store tx.old.conn.now) (state S.Store tx.new.conn.now) (λ _. ⊥) }
 {
     'rows: for row in rows {

@@ -1,4 +1,7 @@
-use mr_base::{RoomName, ServerId};
+ghost use Rattle.std.specs.Prelude.{◌≡◌};
+ghost use Rattle.mr_first.specs.Forms.{write_id, undo_id};
+
+use mr_base::{RoomName, ServerId, WriteId};
 use mr_replay::Place;
 use mr_tables::MeetingCells;
 use std::marker::Model;
@@ -15,7 +18,9 @@ pub struct WriteRow {
 }
 
 impl Model for WriteRow {
+    ghost use Rattle.std.specs.Prelude.{IsTrue};
     ghost use Rattle.mr_model.specs.First as tables;
+    ghost use Rattle.mr_model.specs.Writes.{is_count};
 
     ghost Value = { tables.WriteRow };
 
@@ -29,6 +34,20 @@ impl Model for WriteRow {
       title = r.meeting.title;
       seq = r.seq;
     } };
+
+    ghost invariant = { λ r. IsTrue (is_count r.n) };
+}
+
+impl WriteRow {
+    /// The id of the write.
+    pub fn id(&self) -> WriteId
+        ensures { result ≡ write_id self.now }
+    {
+        let (server, n) = (self.server, self.n);
+        // For the prover alone: a server is from 1 to 99.
+        server.number();
+        WriteId { server, n }
+    }
 }
 
 /// A row of `undo`: the place of a kept write, the number of its choice or the error log.
@@ -40,12 +59,28 @@ pub struct FirstUndoRow {
 }
 
 impl Model for FirstUndoRow {
+    ghost use Rattle.std.specs.Prelude.{IsTrue};
     ghost use Rattle.mr_model.specs.First as tables;
+    ghost use Rattle.mr_model.specs.Writes.{is_count};
     ghost use Rattle.mr_replay.specs.Places.{place_seen, place_from};
 
     ghost Value = { tables.FirstUndoRow };
 
     ghost view = { λ r. record { server = r.server; n = r.n; place = place_seen r.place } };
 
+    ghost invariant = { λ r. IsTrue (is_count r.n) };
+
     ghost inverse = { λ v. record { server = v.server; n = v.n; place = place_from v.place } };
+}
+
+impl FirstUndoRow {
+    /// The id of the write.
+    pub fn id(&self) -> WriteId
+        ensures { result ≡ undo_id self.now }
+    {
+        let (server, n) = (self.server, self.n);
+        // For the prover alone: a server is from 1 to 99.
+        server.number();
+        WriteId { server, n }
+    }
 }

@@ -1,17 +1,21 @@
 -- The texts that ask for some rows of a table can only fail by the store, and show rows of the table alone.
-use Rattle.std.proofs.Common.{◌≡◌, ℕ, pos, Bool, true, List, [], ◌∷◌, length, map, filter, refl, ap, ◌∙◌}
+use Rattle.std.proofs.Common.{◌≡◌, ℕ, pos, Bool, true, ◌&&◌, List, [], ◌∷◌, length, map, filter, ap, ◌∙◌}
 use Rattle.std.specs.Prelude.{bytes_eq}
 use Rattle.std.specs.List.{All, AllByRecursion}
 use Rattle.std.specs.List.Sorted.{IsPermutation}
 use Rattle.std.proofs.lemmas.List.Elements.{All-from_recursion}
 use Rattle.std.proofs.lemmas.List.Sorted.{IsPermutation-sym}
 use Rattle.sqlite_value.specs.declared.value.Value.TheVariants.{Null, Int, Text}
-use Rattle.sqlite_value.specs.Order.{Row}
+use Rattle.sqlite_value.specs.Order.{Row, column}
+use Rattle.sqlite_value.specs.declared.value.Value.{Value}
+use Rattle.sqlite_rules.specs.Edit.{id_in}
+use Rattle.sqlite_trees.specs.Tree.{rowid}
+use Rattle.sqlite_schema.specs.Rules.{equal}
+use Rattle.sqlite.specs.Collation.TheVariants.{Binary}
 use Rattle.sqlite_trees.proofs.ListLemmas.{all-filter}
 use Rattle.sqlite_sql.specs.Term.{Term, eval_all}
 use Rattle.sqlite_typing.specs.Types.{accepts_program}
 use Rattle.sqlite_rules.proofs.ListLemmas.{all_has, all_from}
-use Rattle.sqlite_tied.specs.Compute.{everything}
 use Rattle.sqlite.specs.Command.TheVariants.{Select}
 use Rattle.sqlite.specs.Listing.{understood}
 use Rattle.sqlite.specs.State.{State, Shown}
@@ -19,21 +23,18 @@ use Rattle.sqlite.proofs.Callers.{reads_as}
 use Rattle.mr_model.specs.Texts as texts
 use Rattle.mr_model.specs.Writes.{Id}
 use Rattle.mr_model.specs.Replica.{is_among}
-use Rattle.mr_model.specs.Queries.{booking_id, error_id, cancelled_id, cancel_id}
 use Rattle.mr_rows.specs.Meaning.{passes, query_of, columns_at}
 use Rattle.mr_rows.specs.Schema.{our_schema}
-use Rattle.mr_rows.specs.RowCells.{booking_row_from, error_in, cancelled_in, cancel_row_from}
-use Rattle.mr_rows.specs.Form.{Form, booking_form, error_form, cancelled_form, cancel_form}
+use Rattle.mr_rows.specs.Form.{Form}
 use Rattle.mr_rows.specs.Database.{IsRowOf}
 use Rattle.mr_rows.specs.Shown.{IsShownAs, IsStoredAs, AreStoredAs}
-use Rattle.mr_rows.specs.Asked.{AreChosen, AsksFor}
-use Rattle.mr_rows.proofs.StatementMeaning.{MeansQuery, asks, program_of, names_of, room_booking_text, room_booking_is, booking_room_tests, key_booking_text, key_booking_is, booking_key_tests, room_error_text, room_error_is, error_room_tests, key_error_text, key_error_is, error_key_tests, room_cancelled_text, room_cancelled_is, cancelled_room_tests, key_cancelled_text, key_cancelled_is, cancelled_key_tests, room_cancel_text, room_cancel_is, cancel_room_tests, key_cancel_text, key_cancel_is, cancel_key_tests}
+use Rattle.mr_rows.specs.RowsAsked.{AreChosen, AsksFor}
+use Rattle.mr_rows.proofs.StatementMeaning.{MeansQuery, asks, one_test, id_tests, program_of, names_of}
 use Rattle.mr_rows.proofs.ValueLemmas.{equal_text, and_true, id_test}
 use Rattle.mr_rows.proofs.FormLemmas.{shows, has_moved}
 use Rattle.mr_rows.proofs.CauseLemmas.{all_mapped}
 use Rattle.mr_rows.proofs.SureTexts.{is_whole, sure_text}
 use Rattle.mr_rows.proofs.TableLemmas.{Facts, finds_rows}
-use Rattle.mr_rows.proofs.TableFacts.{booking_facts, error_facts, cancelled_facts, cancel_facts}
 
 -- ---- what such a text shows
 
@@ -60,7 +61,7 @@ module _ {R K : Type 0} (f : Form R K) (text : List ℕ) (params : Row) (chosen 
     λ stored. shows_own old new rows schema stored shown,
   )
 
--- ---- each text
+-- ---- texts
 
 asks_for : {R K : Type 0} (f : Form R K) (facts : Facts our_schema f) (text : List ℕ) (tests : List Term) (params : Row) (chosen : R → Bool) → MeansQuery text (asks f.table tests) → ((r : Row) → IsRowOf f r → passes tests params r ≡ chosen (f.row_in r))
     → ((r : Row) → IsRowOf f r → f.row_in (Null ∷ eval_all (columns_at 1 (length f.table.columns)) (params ∷ r ∷ [])) ≡ f.row_in r) → ((r : Row) → IsStoredAs f r → IsShownAs f (eval_all (columns_at 1 (length f.table.columns)) (params ∷ r ∷ [])))
@@ -78,50 +79,26 @@ asks_for f facts text tests params chosen means picks same own whole accepts = r
   own = own;
 }
 
-pub room_booking_asks : (room : texts.Text) → AsksFor booking_form room_booking_text (Text room ∷ []) (λ row. bytes_eq row.room room)
-unfolding understood everything
-room_booking_asks room =
-    asks_for booking_form booking_facts room_booking_text booking_room_tests (Text room ∷ []) (λ row. bytes_eq row.room room) room_booking_is
-    (λ r is. ap (passes booking_room_tests (Text room ∷ [])) is ∙ and_true _ ∙ equal_text (booking_row_from r).room room) (λ r is. refl) (λ r is. is) refl refl
+-- for the rows of a room, whose name is in this column
+pub room_asks : {R K : Type 0} (f : Form R K) (facts : Facts our_schema f) (text : List ℕ) (at : ℕ) (room_of : R → texts.Text) → MeansQuery text (asks f.table (one_test at)) → ((x : R) (v : Value) → column (v ∷ f.cells x) at ≡ Text (room_of x))
+    → ((room : texts.Text) (r : Row) → IsRowOf f r → f.row_in (Null ∷ eval_all (columns_at 1 (length f.table.columns)) ((Text room ∷ []) ∷ r ∷ [])) ≡ f.row_in r)
+    → ((room : texts.Text) (r : Row) → IsStoredAs f r → IsShownAs f (eval_all (columns_at 1 (length f.table.columns)) ((Text room ∷ []) ∷ r ∷ []))) → is_whole text 1 (understood our_schema text) ≡ true
+    → ((room : texts.Text) → accepts_program our_schema [] (query_of f.table.tree (one_test at) (columns_at 1 (length f.table.columns))) (Text room ∷ []) ≡ true) → (room : texts.Text) → AsksFor f text (Text room ∷ []) (λ row. bytes_eq (room_of row) room)
+room_asks f facts text at room_of means cell same own whole accepts room =
+    asks_for f facts text (one_test at) (Text room ∷ []) (λ row. bytes_eq (room_of row) room) means
+    (λ r is. ap (λ v. equal Binary v (Text room) && true) (ap (λ y. column y at) is ∙ cell (f.row_in r) (Int (id_in (rowid r)))) ∙ and_true _ ∙ equal_text (room_of (f.row_in r)) room) (same room) (own room) whole (accepts room)
 
-pub key_booking_asks : (id : Id) → AsksFor booking_form key_booking_text (Int (pos id.server) ∷ Int (pos id.n) ∷ []) (λ row. is_among (booking_id row) (id ∷ []))
-unfolding understood everything
-key_booking_asks id =
-    asks_for booking_form booking_facts key_booking_text booking_key_tests (Int (pos id.server) ∷ Int (pos id.n) ∷ []) (λ row. is_among (booking_id row) (id ∷ [])) key_booking_is
-    (λ r is. ap (passes booking_key_tests (Int (pos id.server) ∷ Int (pos id.n) ∷ [])) is ∙ id_test (booking_row_from r).server (booking_row_from r).n id) (λ r is. refl) (λ r is. is) refl refl
-
-pub room_error_asks : (room : texts.Text) → AsksFor error_form room_error_text (Text room ∷ []) (λ row. bytes_eq row.room room)
-unfolding understood everything
-room_error_asks room =
-    asks_for error_form error_facts room_error_text error_room_tests (Text room ∷ []) (λ row. bytes_eq row.room room) room_error_is
-    (λ r is. ap (passes error_room_tests (Text room ∷ [])) is ∙ and_true _ ∙ equal_text (error_in r).room room) (λ r is. refl) (λ r is. is) refl refl
-
-pub key_error_asks : (id : Id) → AsksFor error_form key_error_text (Int (pos id.server) ∷ Int (pos id.n) ∷ []) (λ row. is_among (error_id row) (id ∷ []))
-unfolding understood everything
-key_error_asks id =
-    asks_for error_form error_facts key_error_text error_key_tests (Int (pos id.server) ∷ Int (pos id.n) ∷ []) (λ row. is_among (error_id row) (id ∷ [])) key_error_is
-    (λ r is. ap (passes error_key_tests (Int (pos id.server) ∷ Int (pos id.n) ∷ [])) is ∙ id_test (error_in r).server (error_in r).n id) (λ r is. refl) (λ r is. is) refl refl
-
-pub room_cancelled_asks : (room : texts.Text) → AsksFor cancelled_form room_cancelled_text (Text room ∷ []) (λ row. bytes_eq row.room room)
-unfolding understood everything
-room_cancelled_asks room =
-    asks_for cancelled_form cancelled_facts room_cancelled_text cancelled_room_tests (Text room ∷ []) (λ row. bytes_eq row.room room) room_cancelled_is
-    (λ r is. ap (passes cancelled_room_tests (Text room ∷ [])) is ∙ and_true _ ∙ equal_text (cancelled_in r).room room) (λ r is. refl) (λ r is. is) refl refl
-
-pub key_cancelled_asks : (id : Id) → AsksFor cancelled_form key_cancelled_text (Int (pos id.server) ∷ Int (pos id.n) ∷ []) (λ row. is_among (cancelled_id row) (id ∷ []))
-unfolding understood everything
-key_cancelled_asks id =
-    asks_for cancelled_form cancelled_facts key_cancelled_text cancelled_key_tests (Int (pos id.server) ∷ Int (pos id.n) ∷ []) (λ row. is_among (cancelled_id row) (id ∷ [])) key_cancelled_is
-    (λ r is. ap (passes cancelled_key_tests (Int (pos id.server) ∷ Int (pos id.n) ∷ [])) is ∙ id_test (cancelled_in r).server (cancelled_in r).n id) (λ r is. refl) (λ r is. is) refl refl
-
-pub room_cancel_asks : (room : texts.Text) → AsksFor cancel_form room_cancel_text (Text room ∷ []) (λ row. bytes_eq row.room room)
-unfolding understood everything
-room_cancel_asks room =
-    asks_for cancel_form cancel_facts room_cancel_text cancel_room_tests (Text room ∷ []) (λ row. bytes_eq row.room room) room_cancel_is
-    (λ r is. ap (passes cancel_room_tests (Text room ∷ [])) is ∙ and_true _ ∙ equal_text (cancel_row_from r).room room) (λ r is. refl) (λ r is. is) refl refl
-
-pub key_cancel_asks : (id : Id) → AsksFor cancel_form key_cancel_text (Int (pos id.server) ∷ Int (pos id.n) ∷ []) (λ row. is_among (cancel_id row) (id ∷ []))
-unfolding understood everything
-key_cancel_asks id =
-    asks_for cancel_form cancel_facts key_cancel_text cancel_key_tests (Int (pos id.server) ∷ Int (pos id.n) ∷ []) (λ row. is_among (cancel_id row) (id ∷ [])) key_cancel_is
-    (λ r is. ap (passes cancel_key_tests (Int (pos id.server) ∷ Int (pos id.n) ∷ [])) is ∙ id_test (cancel_row_from r).server (cancel_row_from r).n id) (λ r is. refl) (λ r is. is) refl refl
+-- for the row with an id, which is in these columns
+pub id_asks : {R : Type 0} (f : Form R Id) (facts : Facts our_schema f) (text : List ℕ) (at bt : ℕ) → MeansQuery text (asks f.table (id_tests at bt))
+    → ((x : R) (v : Value) → column (v ∷ f.cells x) at ≡ Int (pos (f.key x).server)) → ((x : R) (v : Value) → column (v ∷ f.cells x) bt ≡ Int (pos (f.key x).n))
+    → ((id : Id) (r : Row) → IsRowOf f r → f.row_in (Null ∷ eval_all (columns_at 1 (length f.table.columns)) ((Int (pos id.server) ∷ Int (pos id.n) ∷ []) ∷ r ∷ [])) ≡ f.row_in r)
+    → ((id : Id) (r : Row) → IsStoredAs f r → IsShownAs f (eval_all (columns_at 1 (length f.table.columns)) ((Int (pos id.server) ∷ Int (pos id.n) ∷ []) ∷ r ∷ []))) → is_whole text 2 (understood our_schema text) ≡ true
+    → ((id : Id) → accepts_program our_schema [] (query_of f.table.tree (id_tests at bt) (columns_at 1 (length f.table.columns))) (Int (pos id.server) ∷ Int (pos id.n) ∷ []) ≡ true)
+    → (id : Id) → AsksFor f text (Int (pos id.server) ∷ Int (pos id.n) ∷ []) (λ row. is_among (f.key row) (id ∷ []))
+id_asks f facts text at bt means server n same own whole accepts id =
+    asks_for f facts text (id_tests at bt) (Int (pos id.server) ∷ Int (pos id.n) ∷ []) (λ row. is_among (f.key row) (id ∷ [])) means
+    (λ r is.
+    let x = f.row_in r in
+    let s = ap (λ y. column y at) is ∙ server x (Int (id_in (rowid r))) in
+    let c = ap (λ y. column y bt) is ∙ n x (Int (id_in (rowid r))) in
+    (λ i. equal Binary (s i) (Int (pos id.server)) && (equal Binary (c i) (Int (pos id.n)) && true)) ∙ id_test (f.key x).server (f.key x).n id) (same id) (own id) whole (accepts id)

@@ -29,7 +29,7 @@ use Rattle.sqlite_value.specs.declared.value.Value.TheVariants.{Null}
 use Rattle.mr_rows.specs.Meaning.{passes, columns_at}
 use Rattle.mr_rows.specs.Reads.{IsPlacedIn, ReadsWhere, LooksIn, first_of}
 use Rattle.mr_rows.specs.Schema.{our_schema}
-use Rattle.mr_rows.specs.Asked.{AreChosen}
+use Rattle.mr_rows.specs.RowsAsked.{AreChosen}
 use Rattle.mr_rows.specs.Causes.{IsOfStore, FailsByStoreWhere, FailsByStoreIn, FailsByStore, IsSureUnder, IsSureIn, ShowsOnly, AsksAll}
 use Rattle.mr_rows.specs.CellLimits.{are_meta_cells}
 use Rattle.mr_rows.specs.Form.{Form}

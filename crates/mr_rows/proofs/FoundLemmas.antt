@@ -44,7 +44,7 @@ use Rattle.mr_rows.specs.Shelf.{HasShelves}
 use Rattle.mr_rows.specs.Kept.{AreRowsOf}
 use Rattle.mr_rows.proofs.FormLemmas.{has_map, has_moved}
 use Rattle.mr_rows.proofs.ValueLemmas.{equal_nat, equal_text}
-use Rattle.mr_rows.proofs.StatementLemmas.{first_put}
+use Rattle.mr_rows.proofs.StepLemmas.{first_put}
 
 -- ---- what is said of shown rows holds of the stored ones
 

@@ -1,19 +1,26 @@
 -- What a step on one table makes of all tables, and steps one after another.
-use Rattle.std.proofs.Common.{◌≡◌, ◌≢◌, ℕ, List, [], ◌∷◌, true, false, not, ◌==◌, eq-eqb, ◌+◌, ◌<◌, ◌≤◌, length, drop, get_or, refl, sym, ap, subst, ◌∙◌, arith}
+use Rattle.std.proofs.Common.{◌≡◌, ◌≢◌, inl, ℕ, Bool, List, [], ◌∷◌, true, false, not, ◌||◌, cond, Result, OnOk, ◌==◌, eq-eqb, ◌+◌, ◌<◌, ◌≤◌, length, drop, get_or, refl, sym, ap, subst, ◌∙◌, arith}
 use Rattle.std.proofs.lemmas.Bool.{and_parts, not-true}
+use Rattle.std.proofs.lemmas.Result.{on_ok_weaker}
+use Rattle.std.specs.Prelude.{nat_lt}
 use Rattle.std.specs.List.{AllByRecursion, list_all}
 use Rattle.std.proofs.lemmas.List.{drop_more, drop_all}
 use Rattle.sqlite_trees.specs.Tree.{Trees}
 use Rattle.sqlite_schema.specs.declared.schema.Index.{Index}
+use Rattle.sqlite_schema.specs.declared.schema.Schema.{Schema}
+use Rattle.sqlite.specs.declared.error.Error.{Error}
 use Rattle.sqlite_rules.specs.Edit.{IsNoIndex}
 use Rattle.sqlite.specs.State.{State, HasCleanDisk, KeepsCommit, Survives}
 use Rattle.sqlite.proofs.StateLemmas.{survives_then}
-use Rattle.mr_model.specs.Texts.{Text}
-use Rattle.mr_model.specs.Tables.{MetaRow, VectorRow, LogRow, BookingRow, ErrorRow, CancelledRow, CancelRow, Tables}
-use Rattle.mr_rows.specs.Schema.{our_schema}
+use Rattle.mr_model.specs.Writes.{Id, same_id}
+use Rattle.mr_model.specs.Replica.{is_among}
+use Rattle.mr_model.specs.Tables.{MetaRow, Tables}
+use Rattle.mr_tables.specs.Change.{put, put_all, rows_without}
+use Rattle.mr_rows.specs.Schema.{our_schema, IsOfTwo}
 use Rattle.mr_rows.specs.Form.{Form, meta_form, room_form, vector_form, log_form, booking_form, error_form, cancelled_form, cancel_form}
-use Rattle.mr_rows.specs.Database.{IsHeld, AreHeld, IsOurs, IsTablesStep, IsAskedOfOurs, IsChangeUnderWay, first_meta, in_order, tables_in}
-use Rattle.mr_rows.proofs.TableLemmas.{overlaid, Turns}
+use Rattle.mr_rows.specs.Database.{IsHeld, AreHeld, IsOurs, IsTablesStep, IsAskedOfOurs, MakesTables, IsChangeUnderWay, first_meta, in_order, tables_in}
+use Rattle.mr_rows.specs.TableSteps.{overlaid, Turns, TurnsInto, PutsRow, TakesRow, IsTableOf, rows_put, rows_taken}
+use Rattle.mr_rows.specs.ChangeParts.{put_meta}
 
 -- ---- the tables lie in trees that are no indexes
 
@@ -94,78 +101,54 @@ held_same a b same held = record {
 }
 
 -- where one table turns, the others stay
-step_of : {R K : Type 0} (f : Form R K) (old new : State) (xs : List R) (t : Tables) (turns : Turns our_schema f old new xs) → AreHeld (overlaid old.now.trees f.table.tree turns.rows) → tables_in (overlaid old.now.trees f.table.tree turns.rows) ≡ t
-    → IsTablesStep old new t
-step_of f old new xs t turns held tables = record {
-  ours = record { schema = turns.schema; held = held_same _ _ turns.trees held };
-  tables_are = tables_same _ _ turns.trees ∙ tables;
+pub steps : {R K : Type 0} (f : Form R K) (rows_of : Tables → List R) (with_rows : List R → Tables → Tables) → IsTableOf AreHeld tables_in f rows_of with_rows → (old new : State) (xs : List R) → IsOurs old.now → Turns our_schema f old new xs
+    → IsTablesStep old new (with_rows xs (tables_in old.now.trees))
+steps f rows_of with_rows is old new xs ours turns = record {
+  ours = record { schema = turns.schema; held = held_same _ _ turns.trees (is.held old.now.trees turns.rows ours.held turns.held) };
+  tables_are = tables_same _ _ turns.trees ∙ is.made old.now.trees turns.rows ∙ ap (λ ys. with_rows ys (tables_in old.now.trees)) turns.rows_are;
   committed = turns.committed;
   within = turns.within;
 }
 
-pub meta_step : (old new : State) (xs : List MetaRow) → IsOurs old.now → Turns our_schema meta_form old new xs → IsTablesStep old new (record (tables_in old.now.trees) { meta = first_meta xs })
+-- so a row that is put into one is put into all, and one that is taken from one is taken from all
+turned_all : {R K X : Type 0} (f : Form R K) (rows_of : Tables → List R) (with_rows : List R → Tables → Tables) → IsTableOf AreHeld tables_in f rows_of with_rows → (turn : List R → List R) (old new : State) (r : Result X Error)
+    → TurnsInto our_schema f turn old new r → IsAskedOfOurs old new → OnOk r (IsTablesStep old new (with_rows (turn (rows_of (tables_in old.now.trees))) (tables_in old.now.trees)))
+turned_all f rows_of with_rows is turn old new r turns asked =
+    on_ok_weaker r
+    (λ done. subst (λ rows. IsTablesStep old new (with_rows (turn rows) (tables_in old.now.trees))) (sym (is.read old.now.trees)) (steps f rows_of with_rows is old new _ asked.2 done))
+    (turns asked.0 asked.1 asked.2.schema (is.was old.now.trees asked.2.held))
+
+pub makes_put : {R K X : Type 0} (f : Form R K) (rows_of : Tables → List R) (with_rows : List R → Tables → Tables) → IsTableOf AreHeld tables_in f rows_of with_rows → (Stands : Schema → Type 0) → Stands our_schema → (old new : State) (x : R) (r : Result X Error)
+    → PutsRow Stands f x old new r → MakesTables old new (rows_put f rows_of with_rows (x ∷ []) (tables_in old.now.trees)) r
+makes_put f rows_of with_rows is Stands stands old new x r puts = (turned_all f rows_of with_rows is (put f.before f.key x) old new r (puts.0 our_schema stands), puts.1)
+
+pub makes_taken : {R K X : Type 0} (f : Form R K) (rows_of : Tables → List R) (with_rows : List R → Tables → Tables) → IsTableOf AreHeld tables_in f rows_of with_rows → (id_of : R → Id) (old new : State) (id : Id) (r : Result X Error)
+    → TakesRow our_schema f id_of id old new r → MakesTables old new (rows_taken id_of rows_of with_rows (id ∷ []) (tables_in old.now.trees)) r
+makes_taken f rows_of with_rows is id_of old new id r takes = (turned_all f rows_of with_rows is (rows_without id_of (id ∷ [])) old new r takes.0, takes.1)
+
+-- all rows of `meta` have one key, so a row that is put is the first
+pub first_put : (x : MetaRow) (rows : List MetaRow) → first_meta (put nat_lt (λ _. 1) x rows) ≡ x
+first_put x [] = refl
+first_put x (y ∷ rows) = refl
+
+meta_step : (old new : State) (xs : List MetaRow) → IsOurs old.now → Turns our_schema meta_form old new xs → IsTablesStep old new (record (tables_in old.now.trees) { meta = first_meta xs })
 unfolding tables_in
 meta_step old new xs ours turns =
     let was = ours.held in
-    step_of meta_form old new xs _ turns
-    (record { meta = turns.held; room = was.room; vector = was.vector; log = was.log; booking = was.booking; errorlog = was.errorlog; cancelled = was.cancelled; cancels = was.cancels; no_write_log = was.no_write_log; no_undo = was.no_undo })
-    (ap (λ ys. record (tables_in old.now.trees) { meta = first_meta ys }) turns.rows_are)
+    record {
+      ours = record { schema = turns.schema; held = held_same _ (overlaid old.now.trees 0 turns.rows) turns.trees (record { meta = turns.held; room = was.room; vector = was.vector; log = was.log; booking = was.booking; errorlog = was.errorlog; cancelled = was.cancelled; cancels = was.cancels; no_write_log = was.no_write_log; no_undo = was.no_undo }) };
+      tables_are = tables_same _ (overlaid old.now.trees 0 turns.rows) turns.trees ∙ ap (λ ys. record (tables_in old.now.trees) { meta = first_meta ys }) turns.rows_are;
+      committed = turns.committed;
+      within = turns.within;
+    }
 
-pub room_step : (old new : State) (xs : List Text) → IsOurs old.now → Turns our_schema room_form old new xs → IsTablesStep old new (record (tables_in old.now.trees) { room = xs })
-unfolding tables_in
-room_step old new xs ours turns =
-    let was = ours.held in
-    step_of room_form old new xs _ turns
-    (record { meta = was.meta; room = turns.held; vector = was.vector; log = was.log; booking = was.booking; errorlog = was.errorlog; cancelled = was.cancelled; cancels = was.cancels; no_write_log = was.no_write_log; no_undo = was.no_undo })
-    (ap (λ ys. record (tables_in old.now.trees) { room = ys }) turns.rows_are)
-
-pub vector_step : (old new : State) (xs : List VectorRow) → IsOurs old.now → Turns our_schema vector_form old new xs → IsTablesStep old new (record (tables_in old.now.trees) { vector = xs })
-unfolding tables_in
-vector_step old new xs ours turns =
-    let was = ours.held in
-    step_of vector_form old new xs _ turns
-    (record { meta = was.meta; room = was.room; vector = turns.held; log = was.log; booking = was.booking; errorlog = was.errorlog; cancelled = was.cancelled; cancels = was.cancels; no_write_log = was.no_write_log; no_undo = was.no_undo })
-    (ap (λ ys. record (tables_in old.now.trees) { vector = ys }) turns.rows_are)
-
-pub log_step : (old new : State) (xs : List LogRow) → IsOurs old.now → Turns our_schema log_form old new xs → IsTablesStep old new (record (tables_in old.now.trees) { log = xs })
-unfolding tables_in
-log_step old new xs ours turns =
-    let was = ours.held in
-    step_of log_form old new xs _ turns
-    (record { meta = was.meta; room = was.room; vector = was.vector; log = turns.held; booking = was.booking; errorlog = was.errorlog; cancelled = was.cancelled; cancels = was.cancels; no_write_log = was.no_write_log; no_undo = was.no_undo })
-    (ap (λ ys. record (tables_in old.now.trees) { log = ys }) turns.rows_are)
-
-pub booking_step : (old new : State) (xs : List BookingRow) → IsOurs old.now → Turns our_schema booking_form old new xs → IsTablesStep old new (record (tables_in old.now.trees) { booking = xs })
-unfolding tables_in
-booking_step old new xs ours turns =
-    let was = ours.held in
-    step_of booking_form old new xs _ turns
-    (record { meta = was.meta; room = was.room; vector = was.vector; log = was.log; booking = turns.held; errorlog = was.errorlog; cancelled = was.cancelled; cancels = was.cancels; no_write_log = was.no_write_log; no_undo = was.no_undo })
-    (ap (λ ys. record (tables_in old.now.trees) { booking = ys }) turns.rows_are)
-
-pub error_step : (old new : State) (xs : List ErrorRow) → IsOurs old.now → Turns our_schema error_form old new xs → IsTablesStep old new (record (tables_in old.now.trees) { errorlog = xs })
-unfolding tables_in
-error_step old new xs ours turns =
-    let was = ours.held in
-    step_of error_form old new xs _ turns
-    (record { meta = was.meta; room = was.room; vector = was.vector; log = was.log; booking = was.booking; errorlog = turns.held; cancelled = was.cancelled; cancels = was.cancels; no_write_log = was.no_write_log; no_undo = was.no_undo })
-    (ap (λ ys. record (tables_in old.now.trees) { errorlog = ys }) turns.rows_are)
-
-pub cancelled_step : (old new : State) (xs : List CancelledRow) → IsOurs old.now → Turns our_schema cancelled_form old new xs → IsTablesStep old new (record (tables_in old.now.trees) { cancelled = xs })
-unfolding tables_in
-cancelled_step old new xs ours turns =
-    let was = ours.held in
-    step_of cancelled_form old new xs _ turns
-    (record { meta = was.meta; room = was.room; vector = was.vector; log = was.log; booking = was.booking; errorlog = was.errorlog; cancelled = turns.held; cancels = was.cancels; no_write_log = was.no_write_log; no_undo = was.no_undo })
-    (ap (λ ys. record (tables_in old.now.trees) { cancelled = ys }) turns.rows_are)
-
-pub cancel_step : (old new : State) (xs : List CancelRow) → IsOurs old.now → Turns our_schema cancel_form old new xs → IsTablesStep old new (record (tables_in old.now.trees) { cancels = xs })
-unfolding tables_in
-cancel_step old new xs ours turns =
-    let was = ours.held in
-    step_of cancel_form old new xs _ turns
-    (record { meta = was.meta; room = was.room; vector = was.vector; log = was.log; booking = was.booking; errorlog = was.errorlog; cancelled = was.cancelled; cancels = turns.held; no_write_log = was.no_write_log; no_undo = was.no_undo })
-    (ap (λ ys. record (tables_in old.now.trees) { cancels = ys }) turns.rows_are)
+pub makes_meta : {X : Type 0} (old new : State) (x : MetaRow) (r : Result X Error) → PutsRow IsOfTwo meta_form x old new r → MakesTables old new (put_meta x (tables_in old.now.trees)) r
+makes_meta old new x r puts = (
+  λ asked.
+      on_ok_weaker r (λ turns. subst (λ m. IsTablesStep old new (put_meta m (tables_in old.now.trees))) (first_put x _) (meta_step old new _ asked.2 turns))
+      (puts.0 our_schema (inl refl) asked.0 asked.1 asked.2.schema asked.2.held.meta),
+  puts.1,
+)
 
 -- ---- one after another
 
@@ -191,6 +174,38 @@ goes_on first now next one rest both whole parts way made s = (
       ),
   λ clean. keeps_then first now next (way.1 (clean_before now next s clean)) (made.1 clean),
 )
+
+-- ---- rows of one table, one after the other
+
+-- the first, and then the others
+without_more : {R : Type 0} (key : R → Id) (id : Id) (ids : List Id) (rows : List R)
+    → rows_without key (id ∷ ids) rows ≡ rows_without key ids (rows_without key (id ∷ []) rows)
+without_more key id ids [] = refl
+without_more key id ids (row ∷ rows) = go (same_id (key row) id) (without_more key id ids rows)
+  where
+    go : (b : Bool) → rows_without key (id ∷ ids) rows ≡ rows_without key ids (rows_without key (id ∷ []) rows)
+        → cond (not (b || is_among (key row) ids)) (row ∷ rows_without key (id ∷ ids) rows) (rows_without key (id ∷ ids) rows)
+        ≡ rows_without key ids (cond (not (b || false)) (row ∷ rows_without key (id ∷ []) rows) (rows_without key (id ∷ []) rows))
+    go true ih = ih
+    go false ih = ap (λ more. cond (not (is_among (key row) ids)) (row ∷ more) more) ih
+
+-- none taken away
+without_none : {R : Type 0} (key : R → Id) (rows : List R) → rows_without key [] rows ≡ rows
+without_none key [] = refl
+without_none key (row ∷ rows) = ap (λ more. row ∷ more) (without_none key rows)
+
+module _ {T R K : Type 0} {Held : Trees → Type 0} {seen : Trees → T} (f : Form R K) (rows_of : T → List R) (with_rows : List R → T → T) (is : IsTableOf Held seen f rows_of with_rows) where
+  turned_twice : (turn : List R → List R) (ys : List R) (t : T) → with_rows (turn ys) t ≡ with_rows (turn (rows_of (with_rows ys t))) (with_rows ys t)
+  turned_twice turn ys t = sym (ap (λ rows. with_rows (turn rows) (with_rows ys t)) (is.back ys t) ∙ is.again ys (turn ys) t)
+
+  pub put_more : (x : R) (xs : List R) (t : T) → rows_put f rows_of with_rows (x ∷ xs) t ≡ rows_put f rows_of with_rows xs (rows_put f rows_of with_rows (x ∷ []) t)
+  put_more x xs t = turned_twice (put_all f.before f.key xs) (put f.before f.key x (rows_of t)) t
+
+  pub taken_more : (id_of : R → Id) (id : Id) (ids : List Id) (t : T) → rows_taken id_of rows_of with_rows (id ∷ ids) t ≡ rows_taken id_of rows_of with_rows ids (rows_taken id_of rows_of with_rows (id ∷ []) t)
+  taken_more id_of id ids t = ap (λ rows. with_rows rows t) (without_more id_of id ids (rows_of t)) ∙ turned_twice (rows_without id_of ids) (rows_without id_of (id ∷ []) (rows_of t)) t
+
+  pub taken_none : (id_of : R → Id) (t : T) → rows_taken id_of rows_of with_rows [] t ≡ t
+  taken_none id_of t = ap (λ rows. with_rows rows t) (without_none id_of (rows_of t)) ∙ is.same t
 
 -- the same at an element of a list, of which the elements behind it are left
 pub goes_on_at : {X : Type 0} (first now next : State) (part : List X → Tables → Tables) (xs : List X) (i : ℕ) (x : X) (whole : Tables)

@@ -1,11 +1,12 @@
 -- What the statements on one table make of its rows, whichever table it is.
-use Rattle.std.proofs.Common.{◌≡◌, ℕ, ℤ, List, [], ◌∷◌, ◌++◌, map, filter, Bool, true, false, not, ◌==◌, cond, if◌then◌else◌, IsTrue, None, Ok, Err, Result, Option, OnOk, refl, sym, ap, subst, ◌∙◌, Less, eqb-true, arith}
-use Rattle.std.specs.Prelude.{length, ◌/◌}
+use Rattle.std.proofs.Common.{◌≡◌, ℕ, ℤ, pos, ◌&&◌, ◌||◌, List, [], ◌∷◌, ◌++◌, map, filter, Bool, true, false, not, ◌==◌, cond, None, Some, Ok, Err, Result, Option, OnOk, refl, sym, ap, subst, ◌∙◌, Less, eqb-true, arith}
+use Rattle.std.specs.Prelude.{length, slice_get, ◌/◌}
 use Rattle.std.specs.List.{AllByRecursion}
 use Rattle.std.specs.List.Sorted.{IsPermutation}
 use Rattle.std.proofs.lemmas.List.Sorted.{IsPermutation-map, IsPermutation-sym, IsPermutation-trans}
+use Rattle.sqlite_value.specs.declared.value.Value.{Value}
 use Rattle.sqlite_value.specs.declared.value.Value.TheVariants.{Null, Int}
-use Rattle.sqlite_value.specs.Order.{Row, value_cmp}
+use Rattle.sqlite_value.specs.Order.{Row, column, value_cmp}
 use Rattle.sqlite_trees.specs.Tree.{Trees, rowid, IsAscending}
 use Rattle.sqlite_trees.proofs.ListLemmas.{all-filter, ascending-filter, IsPermutation-filter}
 use Rattle.sqlite_sql.specs.Term.{Term, col, eval_all}
@@ -13,21 +14,27 @@ use Rattle.sqlite_sql.specs.Program.{overlay}
 use Rattle.sqlite_schema.specs.declared.schema.Keys.TheVariants.{Enforced}
 use Rattle.sqlite_schema.specs.declared.program.Program.{Program}
 use Rattle.sqlite_schema.specs.declared.schema.Schema.{Schema}
+use Rattle.sqlite_schema.specs.declared.schema.Table.{Table}
 use Rattle.sqlite_schema.specs.declared.command.Conflict.TheVariants.{Replace}
 use Rattle.sqlite_rules.specs.Lists.{Has}
 use Rattle.sqlite_rules.proofs.ListLemmas.{all_has, all_from, has_filtered}
 use Rattle.sqlite_rules.specs.Action.{works}
-use Rattle.sqlite_rules.specs.Cast.{cast_row}
+use Rattle.sqlite_rules.specs.Cast.{cast, cast_row}
 use Rattle.sqlite_rules.specs.Keys.{conflicts}
-use Rattle.sqlite_rules.specs.Edit.{next_rowid, IsNoIndex}
+use Rattle.sqlite_rules.specs.Edit.{id_in, next_rowid, IsNoIndex}
+use Rattle.sqlite_schema.specs.Rules.{equal}
+use Rattle.sqlite.specs.Collation.TheVariants.{Binary}
+use Rattle.mr_model.specs.Writes.{Id}
+use Rattle.mr_model.specs.Replica.{is_among}
 use Rattle.sqlite.specs.Command.TheVariants.{InsertOr, Delete, Select}
 use Rattle.sqlite.specs.Source.TheVariants.{Values}
 use Rattle.sqlite.specs.declared.error.Error.{Error}
 use Rattle.sqlite.specs.declared.run.Mode.{Mode}
 use Rattle.sqlite.specs.Effect.{Database, value_rows}
 use Rattle.sqlite.specs.Listing.{understood}
-use Rattle.sqlite.specs.Rows.{Task, stamped, mended}
-use Rattle.sqlite.specs.Does.{Does, OnRows}
+use Rattle.sqlite.specs.Rows.{Task, Part, stamped}
+use Rattle.sqlite.specs.Does.{Does, OnRows, OnTable, AtPlace, Tally}
+use Rattle.sqlite.specs.Kind.TheVariants.{Integer}
 use Rattle.sqlite.specs.State.{State, mode_of, ExecutesInside, Shown}
 use Rattle.sqlite.proofs.Callers.{statement_of, runs_as, reads_as}
 use Rattle.mr_tables.specs.Change.{put, put_all}
@@ -35,7 +42,9 @@ use Rattle.mr_tables.specs.TableOrders.{IsOrder}
 use Rattle.mr_rows.specs.Meaning.{passes}
 use Rattle.mr_rows.specs.Form.{Form}
 use Rattle.mr_rows.specs.Database.{IsRowOf, IsHeld, in_order}
-use Rattle.mr_rows.proofs.StatementMeaning.{MeansIn, MeansQueryIn, program_of}
+use Rattle.mr_rows.specs.TableSteps.{overlaid, Turns}
+use Rattle.mr_rows.proofs.StatementMeaning.{MeansIn, MeansQueryIn, program_of, one_test, id_tests, values_of, width_of}
+use Rattle.mr_rows.proofs.ValueLemmas.{equal_apart, and_true, id_test, among_one, one_among, clash_one, clash_two, cast_null, cast_int, are_plain, casts_plain, mends_plain}
 use Rattle.mr_rows.proofs.RowLemmas.{shelf_filter, shelf_push, next_above, ascending_push}
 use Rattle.mr_rows.proofs.FormLemmas.{deletes, upserts, shows, Leaves}
 use Rattle.mr_rows.proofs.SortedByKey.{Apart, ordered-filter, ordered-put, ordered_same}
@@ -45,6 +54,7 @@ pub record Facts (under : Schema) {R K : Type 0} (f : Form R K) : Type 1 where
   pub order : IsOrder K f.before
   -- its place in the schema
   pub place : ℕ
+  pub stands : slice_get under.tables place ≡ Some f.table
   -- a key as parameters, the tests that find its rows, and what they say of plain rows
   pub key_cells : K → Row
   pub key_tests : List Term
@@ -53,36 +63,81 @@ pub record Facts (under : Schema) {R K : Type 0} (f : Form R K) : Type 1 where
   pub same_key : (k : K) (x : R) → has_key k x ≡ true → f.key x ≡ k
   pub own_key : (x y : R) → f.key y ≡ f.key x → has_key (f.key x) y ≡ true
   -- the values of a new row
-  pub terms : List Term
-  pub width : ℕ
-  pub given : (x : R) → value_rows (stamped f.table (f.cells x)) width (length terms / width) terms ≡ (Null ∷ f.cells x) ∷ []
-  pub fresh : (x : R) → cast_row f.table (mended Replace f.table (Null ∷ f.cells x)) ≡ Null ∷ f.cells x
-  pub fits : (x : R) (id : ℤ) → cast_row f.table (Int id ∷ f.cells x) ≡ Int id ∷ f.cells x
+  pub given : (x : R) → value_rows (stamped f.table (f.cells x)) (width_of f.table) (length (values_of f.table) / width_of f.table) (values_of f.table) ≡ (Null ∷ f.cells x) ∷ []
+  pub plain : (x : R) → are_plain f.table.columns (f.cells x) ≡ true
   pub clashes : (x : R) (id : ℤ) (r : Row) → value_cmp (rowid r) (Int id) ≡ Less → conflicts None under.indexes f.table (Int id ∷ f.cells x) r ≡ passes key_tests (key_cells (f.key x)) r
   pub alone : (db : Trees) → overlay db [] f.table.tree ≡ db f.table.tree
   pub uncounted : f.table.is_counted ≡ false
   pub free : (taken news : List Row) → works under Enforced 0 f.table.tree taken news ≡ []
-  -- the statements are on this table
-  pub on_rows : (limit : Option ℕ) (mode : Mode) (params : Row) (db : Trees) (text : List ℕ)
-      → (out : _) → Does limit mode params (record { schema = under; trees = db }) text None (InsertOr place Replace (Values terms width) []) out
-      → OnRows (record { limit = limit; keys = mode.keys; schema = under; table = f.table; params = params }) mode None (InsertOr place Replace (Values terms width) []) db out
-  pub on_taken : (limit : Option ℕ) (mode : Mode) (params : Row) (db : Trees) (text : List ℕ) (q : Program)
-      → (out : _) → Does limit mode params (record { schema = under; trees = db }) text None (Delete place q) out
-      → OnRows (record { limit = limit; keys = mode.keys; schema = under; table = f.table; params = params }) mode None (Delete place q) db out
 
--- the trees with other rows in one of them
-abbrev pub overlaid : Trees → ℕ → List Row → Trees
-overlaid db tree rows t = if t == tree then rows else db t
+-- ---- keys
 
--- within a transaction, one table has these rows from now on
-pub record Turns (under : Schema) {R K : Type 0} (f : Form R K) (old new : State) (xs : List R) : Type 0 where
-  pub rows : List Row
-  pub schema : new.now.schema ≡ under
-  pub trees : (t : ℕ) → IsNoIndex under t → new.now.trees t ≡ overlaid old.now.trees f.table.tree rows t
-  pub held : IsHeld f rows
-  pub rows_are : in_order f rows ≡ xs
-  pub committed : new.committed ≡ old.committed
-  pub within : IsTrue new.in_transaction
+-- of one column, whose cell tells the key
+abbrev pub facts_by_one : {under : Schema} {R K : Type 0} (f : Form R K) (order : IsOrder K f.before) (place : ℕ) (cell : K → Value) (same : K → K → Bool) → ((a b : K) → equal Binary (cell a) (cell b) ≡ same a b)
+    → ((a b : K) → same a b ≡ true → a ≡ b) → ((a b : K) → a ≡ b → same a b ≡ true) → slice_get under.tables place ≡ Some f.table → ((x : R) (v : Value) → column (v ∷ f.cells x) 1 ≡ cell (f.key x))
+    → ((x : R) → value_rows (stamped f.table (f.cells x)) (width_of f.table) (length (values_of f.table) / width_of f.table) (values_of f.table) ≡ (Null ∷ f.cells x) ∷ []) → ((x : R) → are_plain f.table.columns (f.cells x) ≡ true)
+    → ((x : R) (id : ℤ) (r : Row) → conflicts None under.indexes f.table (Int id ∷ f.cells x) r ≡ ((equal Binary (rowid r) (Int id) && true) || ((equal Binary (column r 1) (cell (f.key x)) && true) || false)))
+    → ((db : Trees) → overlay db [] f.table.tree ≡ db f.table.tree) → f.table.is_counted ≡ false → ((taken news : List Row) → works under Enforced 0 f.table.tree taken news ≡ []) → Facts under f
+facts_by_one f order place cell same equals sound complete stands first given plain clashes alone uncounted free = record {
+  order = order;
+  place = place;
+  stands = stands;
+  key_cells = λ k. cell k ∷ [];
+  key_tests = one_test 1;
+  has_key = λ k x. same (f.key x) k;
+  finds = λ k r is.
+      let key = ap (λ y. column y 1) is ∙ first (f.row_in r) (Int (id_in (rowid r))) in
+      ap (λ v. equal Binary v (cell k) && true) key ∙ and_true _ ∙ equals (f.key (f.row_in r)) k;
+  same_key = λ k x h. sound (f.key x) k h;
+  own_key = λ x y same. complete (f.key y) (f.key x) same;
+  given = given;
+  plain = plain;
+  clashes = λ x id r low. clashes x id r ∙ clash_one (equal Binary (rowid r) (Int id)) (equal Binary (column r 1) (cell (f.key x))) (equal_apart (rowid r) (Int id) low);
+  alone = alone;
+  uncounted = uncounted;
+  free = free;
+}
+
+-- of two columns, which are those of an id
+abbrev pub facts_by_id : {under : Schema} {R : Type 0} (f : Form R Id) (order : IsOrder Id f.before) (place at bt : ℕ) → slice_get under.tables place ≡ Some f.table
+    → ((x : R) (v : Value) → column (v ∷ f.cells x) at ≡ Int (pos (f.key x).server)) → ((x : R) (v : Value) → column (v ∷ f.cells x) bt ≡ Int (pos (f.key x).n))
+    → ((x : R) → value_rows (stamped f.table (f.cells x)) (width_of f.table) (length (values_of f.table) / width_of f.table) (values_of f.table) ≡ (Null ∷ f.cells x) ∷ []) → ((x : R) → are_plain f.table.columns (f.cells x) ≡ true)
+    → ((x : R) (id : ℤ) (r : Row) → conflicts None under.indexes f.table (Int id ∷ f.cells x) r
+    ≡ ((equal Binary (rowid r) (Int id) && true) || ((equal Binary (column r at) (Int (pos (f.key x).server)) && (equal Binary (column r bt) (Int (pos (f.key x).n)) && true)) || false)))
+    → ((db : Trees) → overlay db [] f.table.tree ≡ db f.table.tree) → f.table.is_counted ≡ false → ((taken news : List Row) → works under Enforced 0 f.table.tree taken news ≡ []) → Facts under f
+facts_by_id f order place at bt stands server n given plain clashes alone uncounted free = record {
+  order = order;
+  place = place;
+  stands = stands;
+  key_cells = λ id. Int (pos id.server) ∷ Int (pos id.n) ∷ [];
+  key_tests = id_tests at bt;
+  has_key = λ id x. is_among (f.key x) (id ∷ []);
+  finds = λ id r is.
+      let x = f.row_in r in
+      let s = ap (λ y. column y at) is ∙ server x (Int (id_in (rowid r))) in
+      let c = ap (λ y. column y bt) is ∙ n x (Int (id_in (rowid r))) in
+      (λ i. equal Binary (s i) (Int (pos id.server)) && (equal Binary (c i) (Int (pos id.n)) && true)) ∙ id_test (f.key x).server (f.key x).n id;
+  same_key = λ id x h. among_one (f.key x) id h;
+  own_key = λ x y same. one_among (f.key y) (f.key x) same;
+  given = given;
+  plain = plain;
+  clashes = λ x id r low.
+      clashes x id r
+      ∙ clash_two (equal Binary (rowid r) (Int id)) (equal Binary (column r at) (Int (pos (f.key x).server))) (equal Binary (column r bt) (Int (pos (f.key x).n))) (equal_apart (rowid r) (Int id) low);
+  alone = alone;
+  uncounted = uncounted;
+  free = free;
+}
+
+-- a row is written as it is
+cast_new : {R K : Type 0} (f : Form R K) (v : Value) (x : R) → cast Integer v ≡ v → are_plain f.table.columns (f.cells x) ≡ true → cast_row f.table (v ∷ f.cells x) ≡ v ∷ f.cells x
+cast_new f v x same plain = let cells = casts_plain f.table.columns (f.cells x) plain in λ i. same i ∷ cells i
+
+-- a statement on the table at this place is one on this table
+pub on_table : {under : Schema} (table : Table) (place : ℕ) (limit : Option ℕ) (mode : Mode) (params : Row) (db : Trees) (P : Task → Part (Tally × Database)) (out : _) → slice_get under.tables place ≡ Some table
+    → OnTable limit mode params (record { schema = under; trees = db }) place P out → P (record { limit = limit; keys = mode.keys; schema = under; table = table; params = params }) out
+on_table {under} table place limit mode params db P out stands =
+    subst (λ t. AtPlace (λ (table : Table). P (record { limit = limit; keys = mode.keys; schema = under; table = table; params = params })) t out) stands
 
 turned : {under : Schema} (task : Task) (db : Trees) (after : Database) (rows : List Row) → task.schema ≡ under → Leaves task db after rows → (t : ℕ) → IsNoIndex under t → after.trees t ≡ overlaid db task.table.tree rows t
 turned task db after rows ours left t none = go (t == task.table.tree) refl
@@ -141,7 +196,7 @@ module _ {under : Schema} {R K : Type 0} (f : Form R K) (facts : Facts under f) 
       let whole = statement_of text (understood under text) in
       let done = subst (λ s. Does old.step_limit (mode_of old) params (record old.now { schema = s }) whole None command (Ok (w.tally, new.now))) schema w.changed in
       let task : Task = record { limit = old.step_limit; keys = Enforced; schema = under; table = f.table; params = params } in
-      let on = facts.on_taken old.step_limit (mode_of old) params old.now.trees whole program (Ok (w.tally, new.now)) done in
+      let on = on_table f.table facts.place old.step_limit (mode_of old) params old.now.trees (λ task. OnRows task (mode_of old) None command old.now.trees) (Ok (w.tally, new.now)) facts.stands done in
       let left = deletes task (mode_of old) facts.free facts.place facts.key_tests program old.now.trees w.tally new.now refl (facts.alone old.now.trees) held.shelf on in
       let stored = old.now.trees f.table.tree in
       let test = λ (r : Row). not (passes facts.key_tests params r) in
@@ -158,24 +213,24 @@ module _ {under : Schema} {R K : Type 0} (f : Form R K) (facts : Facts under f) 
       }
 
   -- a row is put in the stead of the one that has its key
-  pub puts : (text : List ℕ) (old new : State) (x : R) (r : Result ℕ Error) → MeansIn under text (InsertOr facts.place Replace (Values facts.terms facts.width) [])
+  pub puts : (text : List ℕ) (old new : State) (x : R) (r : Result ℕ Error) → MeansIn under text (InsertOr facts.place Replace (Values (values_of f.table) (width_of f.table)) [])
       → ((id : ℤ) → f.row_in (Int id ∷ f.cells x) ≡ x) → old.now.schema ≡ under → IsHeld f (old.now.trees f.table.tree) → ExecutesInside 0 text (f.cells x) old new r
       → OnOk r (Turns under f old new (put f.before f.key x (in_order f (old.now.trees f.table.tree))))
   puts text old new x (Err e) means back schema held h = tt
   puts text old new x (Ok count) means back schema held h =
       let params = f.cells x in
       let key = facts.key_cells (f.key x) in
-      let command = InsertOr facts.place Replace (Values facts.terms facts.width) [] in
+      let command = InsertOr facts.place Replace (Values (values_of f.table) (width_of f.table)) [] in
       let w = runs_as text params old new under schema command means.0 means.1 count h.0 in
       let whole = statement_of text (understood under text) in
       let done = subst (λ s. Does old.step_limit (mode_of old) params (record old.now { schema = s }) whole None command (Ok (w.tally, new.now))) schema w.changed in
       let task : Task = record { limit = old.step_limit; keys = Enforced; schema = under; table = f.table; params = params } in
-      let on = facts.on_rows old.step_limit (mode_of old) params old.now.trees whole (Ok (w.tally, new.now)) done in
+      let on = on_table f.table facts.place old.step_limit (mode_of old) params old.now.trees (λ task. OnRows task (mode_of old) None command old.now.trees) (Ok (w.tally, new.now)) facts.stands done in
       let stored = old.now.trees f.table.tree in
       let test = λ (r : Row). not (passes facts.key_tests key r) in
       let plain = λ (y : R). facts.has_key (f.key x) y in
-      let left = upserts task (mode_of old) facts.free facts.place facts.terms facts.width (f.cells x) (passes facts.key_tests key) old.now.trees w.tally new.now facts.uncounted (facts.given x)
-      (facts.fresh x) (facts.fits x) (facts.clashes x) held.shelf on in
+      let left = upserts task (mode_of old) facts.free facts.place (values_of f.table) (width_of f.table) (f.cells x) (passes facts.key_tests key) old.now.trees w.tally new.now facts.uncounted (facts.given x)
+      (ap (cast_row f.table) (ap (λ vs. Null ∷ vs) (mends_plain f.table.key 0 f.table.columns (f.cells x) (facts.plain x))) ∙ cast_new f Null x cast_null (facts.plain x)) (λ id. cast_new f (Int id) x (cast_int id) (facts.plain x)) (facts.clashes x) held.shelf on in
       let others = filter test stored in
       let id = next_rowid stored in
       let less = held-filter test stored held in

@@ -1,17 +1,23 @@
 -- Equality of values, and what a column makes of a value of its own kind.
-use Rattle.std.proofs.Common.{◌≡◌, inl, ⊎_elim, ℕ, ℤ, pos, List, [], ◌∷◌, Bool, true, false, ◌&&◌, ◌||◌, ◌==◌, cond, if◌then◌else◌, Some, refl, sym, ap, ◌∙◌, arith, Less}
+use Rattle.std.proofs.Common.{◌≡◌, inl, ⊎_elim, ℕ, ℤ, pos, List, [], ◌∷◌, ◌+◌, Bool, true, false, not, ◌&&◌, ◌||◌, ◌==◌, cond, if◌then◌else◌, Option, Some, refl, sym, ap, ◌∙◌, arith, Less}
+use Rattle.std.proofs.lemmas.Bool.{and_parts}
 use Rattle.std.proofs.lemmas.Map.Text.{is_eq-slice_cmp}
 use Rattle.std.specs.Prelude.{bytes_eq}
 use Rattle.std.specs.Ordering.{is_eq, int_cmp}
 use Rattle.sqlite_value.specs.declared.value.Value.{Value}
-use Rattle.sqlite_value.specs.declared.value.Value.TheVariants.{Null, Int, Text}
-use Rattle.sqlite_value.specs.Order.{value_cmp}
+use Rattle.sqlite_value.specs.declared.value.Value.TheVariants.{Null, Int, Real, Text, Blob}
+use Rattle.sqlite_value.specs.Order.{Row, value_cmp}
 use Rattle.sqlite_value.proofs.OrderLemmas.{value_cmp-Int, value_cmp-Text}
 use Rattle.sqlite_sql.specs.Ops.{unary, binary, is_null, is_true, from_truth}
 use Rattle.sqlite_schema.specs.Rules.{equal}
-use Rattle.sqlite_rules.specs.Cast.{cast}
+use Rattle.sqlite_schema.specs.declared.schema.Column.{Column}
+use Rattle.sqlite_rules.specs.Cast.{cast, cast_all}
+use Rattle.sqlite.specs.Rows.{mended_from}
+use Rattle.sqlite_schema.specs.Names.{is_key}
 use Rattle.sqlite.specs.Collation.TheVariants.{Binary}
+use Rattle.sqlite.specs.Kind.{Kind}
 use Rattle.sqlite.specs.Kind.TheVariants.{Integer}
+use Rattle.sqlite.specs.Kind.TheVariants as kind
 use Rattle.mr_model.specs.Writes.{Id}
 use Rattle.mr_model.specs.Replica.{is_among}
 use Rattle.mr_model.proofs.Members.{among_has, has_among}
@@ -76,3 +82,60 @@ cast_null = either _ Null
 pub cast_int : (n : ℤ) → cast Integer (Int n) ≡ Int n
 unfolding unary
 cast_int n = either _ (Int n)
+
+-- ---- rows whose cells are of the kinds of their columns
+
+abbrev pub is_plain : Kind → Value → Bool
+is_plain Integer (Int n) = true
+is_plain kind.Text (Text t) = true
+is_plain _ _ = false
+
+abbrev pub are_plain : List Column → Row → Bool
+are_plain (c ∷ cs) (v ∷ vs) = is_plain c.kind v && are_plain cs vs
+are_plain _ _ = true
+
+cast_plain : (k : Kind) (v : Value) → is_plain k v ≡ true → cast k v ≡ v
+cast_plain Integer (Int n) is = cast_int n
+cast_plain kind.Text (Text t) is = refl
+cast_plain Integer Null is = absurd (cc)
+cast_plain Integer (Real x) is = absurd (cc)
+cast_plain Integer (Text t) is = absurd (cc)
+cast_plain Integer (Blob b) is = absurd (cc)
+cast_plain kind.Text Null is = absurd (cc)
+cast_plain kind.Text (Int n) is = absurd (cc)
+cast_plain kind.Text (Real x) is = absurd (cc)
+cast_plain kind.Text (Blob b) is = absurd (cc)
+cast_plain kind.Real v is = absurd (cc)
+cast_plain kind.Blob v is = absurd (cc)
+cast_plain kind.Any v is = absurd (cc)
+
+not_null_of : (k : Kind) (v : Value) → is_plain k v ≡ true → is_null v ≡ false
+not_null_of k (Int n) is = refl
+not_null_of k (Real x) is = refl
+not_null_of k (Text t) is = refl
+not_null_of k (Blob b) is = refl
+not_null_of Integer Null is = absurd (cc)
+not_null_of kind.Text Null is = absurd (cc)
+not_null_of kind.Real Null is = absurd (cc)
+not_null_of kind.Blob Null is = absurd (cc)
+not_null_of kind.Any Null is = absurd (cc)
+
+-- a column makes nothing else of them
+pub casts_plain : (cs : List Column) (vs : Row) → are_plain cs vs ≡ true → cast_all cs vs ≡ vs
+casts_plain [] vs all = refl
+casts_plain (c ∷ cs) [] all = refl
+casts_plain (c ∷ cs) (v ∷ vs) all =
+    let both = and_parts (is_plain c.kind v) (are_plain cs vs) all in
+    let one = cast_plain c.kind v both.0 in
+    let more = casts_plain cs vs both.1 in
+    λ i. one i ∷ more i
+
+-- nor is one mended
+pub mends_plain : (key : Option ℕ) (at : ℕ) (cs : List Column) (vs : Row) → are_plain cs vs ≡ true → mended_from key at cs vs ≡ vs
+mends_plain key at [] vs all = refl
+mends_plain key at (c ∷ cs) [] all = refl
+mends_plain key at (c ∷ cs) (v ∷ vs) all =
+    let both = and_parts (is_plain c.kind v) (are_plain cs vs) all in
+    let one : (if c.not_null && is_null v && not (is_key key at) then c.default else v) ≡ v = rw (not_null_of c.kind v both.0) (elim c.not_null as (λ b. (if b && false && not (is_key key at) then c.default else v) ≡ v) [ true ↦ refl | false ↦ refl ]) in
+    let more = mends_plain key (at + 1) cs vs both.1 in
+    λ i. one i ∷ more i

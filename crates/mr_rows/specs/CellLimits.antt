@@ -82,7 +82,7 @@ abbrev pub are_error_cells : Row → Bool
 are_error_cells r = are_slot_cells r && is_time_cell (column r 7) && is_commit_cell (column r 8)
 
 abbrev pub are_cancelled_cells : Row → Bool
-are_cancelled_cells r = are_slot_cells r && is_mark_cell (column r 7) && is_id_cells (column r 8) (column r 9)
+are_cancelled_cells r = are_booking_cells r && is_id_cells (column r 8) (column r 9)
 
 abbrev pub are_cancel_cells : Row → Bool
 are_cancel_cells r =

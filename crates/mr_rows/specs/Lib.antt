@@ -1,4 +1,4 @@
--- A reader of the contracts trusts Schema, Meaning, Shelf, RowCells, RowLimits, CellLimits, TableLimits, Form, Database, Reads, Causes, RowQuestions, Shown, Kept, ChangeParts and TakeLaws.
+-- A reader of the contracts trusts Schema, Meaning, Shelf, RowCells, RowLimits, CellLimits, TableLimits, Form, Database, Reads, Causes, RowsAsked, Shown, Kept, ChangeParts, TableSteps and OurTables.
 pub mod Schema
 pub mod Meaning
 pub mod Shelf
@@ -13,5 +13,6 @@ pub mod Kept
 pub mod ChangeParts
 pub mod Reads
 pub mod Causes
-pub mod Asked
-pub mod TakeLaws
+pub mod RowsAsked
+pub mod TableSteps
+pub mod OurTables

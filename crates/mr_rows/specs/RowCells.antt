@@ -7,7 +7,7 @@ use Rattle.mr_model.specs.Texts as texts
 use Rattle.mr_model.specs.Calendar.{date_text, date_in}
 use Rattle.mr_model.specs.Writes.{Id}
 use Rattle.mr_model.specs.Replay.{Place, Taken, Logged, Done, Void}
-use Rattle.mr_model.specs.Tables.{MetaRow, VectorRow, ActionCells, OfMeeting, OfCancel, MeetingCells, LogRow, BookingRow, ErrorRow, CancelledRow, CancelRow}
+use Rattle.mr_model.specs.Tables.{MetaRow, VectorRow, ActionCells, OfMeeting, OfCancel, MeetingCells, LogRow, BookingRow, ErrorRow, CancelledRow, taken_back, as_booked, CancelRow}
 
 -- ---- values
 
@@ -134,22 +134,12 @@ error_in r = record {
   seq = nat_of (column r 9);
 }
 
+-- a booking's, and the id of the cancel that took it back
 abbrev pub cancelled_cells : CancelledRow → Row
-cancelled_cells c = Text c.room ∷ Text (date_text c.day) ∷ Int (pos c.start) ∷ Int (pos c.stop) ∷ Int (pos c.server) ∷ Int (pos c.n) ∷ Text c.title
-    ∷ Int (flag_number c.committed) ∷ Int (pos c.by.server) ∷ Int (pos c.by.n) ∷ []
+cancelled_cells c = booking_cells (as_booked c) ++ Int (pos c.by.server) ∷ Int (pos c.by.n) ∷ []
 
 abbrev pub cancelled_in : Row → CancelledRow
-cancelled_in r = record {
-  room = bytes (column r 1);
-  day = date_in (bytes (column r 2));
-  start = nat_of (column r 3);
-  stop = nat_of (column r 4);
-  server = nat_of (column r 5);
-  n = nat_of (column r 6);
-  title = bytes (column r 7);
-  committed = nat_of (column r 8) == 1;
-  by = record { server = nat_of (column r 9); n = nat_of (column r 10) };
-}
+cancelled_in r = taken_back (record { server = nat_of (column r 9); n = nat_of (column r 10) }) (booking_row_from r)
 
 abbrev pub cancel_cells : CancelRow → Row
 cancel_cells c = Int (pos c.server) ∷ Int (pos c.n) ∷ Text c.room ∷ Int (pos c.target.server) ∷ Int (pos c.target.n) ∷ Int (flag_number c.done) ∷ Int (pos c.time)

@@ -5,7 +5,7 @@ use Rattle.mr_model.specs.Texts.{Text, within}
 use Rattle.mr_model.specs.Calendar.{Date, is_date, date_text, date_in, time_text, time_in}
 use Rattle.mr_model.specs.Writes.{is_server, is_count, is_time, is_id, is_room_name, is_title, is_length, greatest_alternatives, greatest_count, greatest_time}
 use Rattle.mr_model.specs.Replay.{Place, Taken, Logged, Done, Void}
-use Rattle.mr_model.specs.Tables.{MetaRow, VectorRow, MeetingCells, ActionCells, OfMeeting, OfCancel, LogRow, BookingRow, ErrorRow, CancelledRow, CancelRow}
+use Rattle.mr_model.specs.Tables.{MetaRow, VectorRow, MeetingCells, ActionCells, OfMeeting, OfCancel, LogRow, BookingRow, ErrorRow, CancelledRow, as_booked, CancelRow}
 use Rattle.mr_tables.specs.Cells.{is_cancel_cells}
 
 -- a number of 32 bits
@@ -84,7 +84,7 @@ abbrev pub is_error_row : ErrorRow → Bool
 is_error_row e = is_slot_row e.room e.day e.start e.stop e.server e.n e.title && is_time e.time && is_commit e.seq
 
 abbrev pub is_cancelled_row : CancelledRow → Bool
-is_cancelled_row c = is_slot_row c.room c.day c.start c.stop c.server c.n c.title && is_id c.by
+is_cancelled_row c = is_booking_row (as_booked c) && is_id c.by
 
 abbrev pub is_cancel_row : CancelRow → Bool
 is_cancel_row c = is_server c.server && is_count c.n && is_room_name c.room && is_id c.target && is_time c.time && is_commit c.seq

@@ -13,7 +13,7 @@ ghost use Rattle.mr_rows.specs.Database.{IsHeld, in_order};
 ghost use Rattle.mr_rows.specs.Shown.{IsShownAs, AreStoredAs};
 ghost use Rattle.mr_rows.specs.Reads.{Looks, first_of};
 ghost use Rattle.mr_rows.specs.Causes.{FailsByStore};
-ghost use Rattle.mr_rows.specs.Asked.{AreChosen, AsksFor};
+ghost use Rattle.mr_rows.specs.RowsAsked.{AreChosen, AsksFor};
 
 use crate::idle::Idle;
 use crate::stored_rows::{StoredRow, read_all};
@@ -135,12 +135,6 @@ fn first_row<R: StoredRow>(alloc: Global, rows: &[Row]) -> Result<Option<R>, Err
     }
 }
 
-fn parts_of(id: WriteId) -> (u32, u32)
-    ensures { id ≡ record { server = result.0; n = result.1 } }
-{
-    (id.server.number(), id.n)
-}
-
 /// The row with this id.
 pub fn row_of<R: AskedRow, S: Alter>(
     conn: &mut Idle<S>,
@@ -152,8 +146,7 @@ pub fn row_of<R: AskedRow, S: Alter>(
         → row ≡ find (λ r. same_id (R.id_of r) id) (in_order R.form ((state S.Store conn.old).now.trees R.form.table.tree))) }
     ensures cause { FailsByStore (AreStoredAs R.form) (state S.Store conn.old) (state S.Store conn.new) result }
 {
-    let (server, n) = parts_of(id);
-    let rows = ask_for::<R, S>(conn, R::of_id(), params![server, n])?;
+    let rows = ask_for::<R, S>(conn, R::of_id(), params![id.server.number(), id.n])?;
     first_row(alloc, &rows)
 }
 

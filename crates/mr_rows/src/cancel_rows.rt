@@ -5,77 +5,20 @@ ghost use Rattle.mr_tables.specs.TableOrders.{id_order};
 ghost use Rattle.mr_rows.specs.Schema.{our_schema};
 ghost use Rattle.mr_rows.specs.RowCells.{cancel_row_from};
 ghost use Rattle.mr_rows.specs.CellLimits.{are_cancel_cells};
-ghost use Rattle.mr_rows.specs.Form.{cancelled_form, cancel_form};
-ghost use Rattle.mr_rows.specs.ChangeParts.{take_cancelled, put_cancelled, put_cancels};
-ghost use Rattle.mr_rows.specs.TakeLaws.{cancelled_none, cancelled_more};
+ghost use Rattle.mr_rows.specs.Form.{cancel_form};
+ghost use Rattle.mr_rows.specs.OurTables.{cancel_is};
 
 use crate::cells::{
     has_commit, has_id, has_mark, has_name, has_time, passes, read_commit, read_id, read_mark,
     read_name, read_time,
 };
-use crate::puts::{day_text, parts_of, put_cancel_cells, put_cancelled_cells};
-use crate::slot_cells::{has_cancelled, read_cancelled};
-use crate::stored_rows::{OurRow, RequestRow, StoredRow};
-use mr_base::WriteId;
-use mr_tables::{CancelRow, CancelledRow};
+use crate::numbers::Number;
+use crate::stored_rows::{OurRow, StoredRow};
+use mr_tables::CancelRow;
 use sqlite::{Alter, Error, ErrorCode, Row, Transaction, params};
 use std::alloc::Global;
 
 // The columns are counted from 0, in the order of the table.
-
-impl StoredRow for CancelledRow {
-    ghost Key = { Id };
-
-    ghost form = { cancelled_form };
-
-    ghost stands_in = { λ under. under ≡ our_schema };
-
-    fn all() -> &'static str {
-        "SELECT room, day, start, stop, server, n, title, committed, bserver, bn FROM cancelled"
-    }
-
-    fn read(alloc: Global, row: &Row) -> Result<CancelledRow, Error> {
-        read_cancelled(alloc, row)
-    }
-
-    fn test(row: &Row) -> Result<(), Error> {
-        passes(has_cancelled(row))
-    }
-
-    ghost shown_as = { λ r. refl };
-
-    ghost order = { id_order };
-
-    ghost ordered = { λ a b. refl };
-}
-
-impl OurRow for CancelledRow {
-    ghost put_in = { put_cancelled };
-
-    fn put<S: Alter>(&self, tx: &mut Transaction<'_, S>, alloc: Global) -> Result<usize, Error> {
-        let day = day_text(alloc, self.day)?;
-        put_cancelled_cells(tx, self, &day, parts_of(self.by))
-    }
-
-    ghost put_none = { λ t. refl };
-
-    ghost put_more = { λ x xs t. refl };
-}
-
-impl RequestRow for CancelledRow {
-    ghost take_from = { take_cancelled };
-
-    fn take<S: Alter>(tx: &mut Transaction<'_, S>, id: WriteId) -> Result<usize, Error> {
-        tx.execute(
-            "DELETE FROM cancelled WHERE server = ?1 AND n = ?2",
-            params![id.server.number(), id.n],
-        )
-    }
-
-    ghost take_none = { cancelled_none };
-
-    ghost take_more = { cancelled_more };
-}
 
 impl StoredRow for CancelRow {
     ghost Key = { Id };
@@ -96,6 +39,25 @@ impl StoredRow for CancelRow {
         passes(has_cancel(row))
     }
 
+    fn put<S: Alter>(&self, tx: &mut Transaction<'_, S>, _alloc: Global) -> Result<usize, Error> {
+        let time = Number::new(self.time, 6)?;
+        let seq = Number::new(self.seq, 7)?;
+        let target = self.target;
+        tx.execute(
+            "INSERT OR REPLACE INTO cancel (server, n, room, tserver, tn, done, tm, seq) VALUES (?1, ?2, ?3, ?4, ?5, ?6, ?7, ?8)",
+            params![
+                self.server.number(),
+                self.n,
+                self.room.as_str(),
+                target.server.number(),
+                target.n,
+                self.done,
+                time,
+                seq
+            ],
+        )
+    }
+
     ghost shown_as = { λ r. refl };
 
     ghost order = { id_order };
@@ -104,15 +66,13 @@ impl StoredRow for CancelRow {
 }
 
 impl OurRow for CancelRow {
-    ghost put_in = { put_cancels };
+    ghost rows_of = { λ t. t.cancels };
 
-    fn put<S: Alter>(&self, tx: &mut Transaction<'_, S>, _alloc: Global) -> Result<usize, Error> {
-        put_cancel_cells(tx, self, parts_of(self.target))
-    }
+    ghost with_rows = { λ xs t. record t { cancels = xs } };
 
-    ghost put_none = { λ t. refl };
+    ghost is_ours = { cancel_is };
 
-    ghost put_more = { λ x xs t. refl };
+    ghost stands = { refl };
 }
 
 fn read_cancel(alloc: Global, row: &Row) -> Result<CancelRow, Error>

@@ -3,6 +3,7 @@ ghost use Rattle.sqlite.specs.State.{HasCleanDisk, Survives};
 ghost use Rattle.sqlite.specs.Held.{state};
 ghost use Rattle.mr_tables.specs.Change.{changed};
 ghost use Rattle.mr_rows.specs.Database.{MakesTables, Applies, IsReached, tables_in};
+ghost use Rattle.mr_rows.specs.TableSteps.{rows_put as rows_in, rows_taken as rows_gone};
 ghost use Rattle.mr_rows.specs.ChangeParts.{board_taken, rows_taken, heads_put, board_put, cancels_put, rows_put, rows_made};
 
 use crate::idle::Idle;
@@ -19,7 +20,7 @@ fn take_all<R: RequestRow, S: Alter>(
 ) -> Result<(), Error>
     ensures same_reference { tx.new.conn.ghost_name ≡ tx.old.conn.ghost_name }
     ensures made { MakesTables (state S.Store tx.old.conn.now) (state S.Store tx.new.conn.now)
-        (R.take_from gone.now (tables_in (state S.Store tx.old.conn.now).now.trees)) result }
+        (rows_gone R.id_of R.rows_of R.with_rows gone.now (tables_in (state S.Store tx.old.conn.now).now.trees)) result }
     ensures survives { Survives (state S.Store tx.old.conn.now) (state S.Store tx.new.conn.now) (λ _. ⊥) }
 {
     'gone: for id in gone {
@@ -36,7 +37,7 @@ pub fn put_all<R: OurRow, S: Alter>(
 ) -> Result<(), Error>
     ensures same_reference { tx.new.conn.ghost_name ≡ tx.old.conn.ghost_name }
     ensures made { MakesTables (state S.Store tx.old.conn.now) (state S.Store tx.new.conn.now)
-        (R.put_in rows.now (tables_in (state S.Store tx.old.conn.now).now.trees)) result }
+        (rows_in R.form R.rows_of R.with_rows rows.now (tables_in (state S.Store tx.old.conn.now).now.trees)) result }
     ensures survives { Survives (state S.Store tx.old.conn.now) (state S.Store tx.new.conn.now) (λ _. ⊥) }
 {
     'rows: for row in rows {

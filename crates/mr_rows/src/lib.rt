@@ -14,6 +14,7 @@ pub mod changes;
 pub mod choices;
 pub mod found;
 mod idle;
+mod log_rows;
 pub mod meta_row;
 pub mod meta_table;
 pub mod numbers;
@@ -21,6 +22,7 @@ mod order;
 pub mod puts;
 pub mod queries;
 mod slot_cells;
+mod slot_rows;
 mod stored_rows;
 mod table_rows;
 

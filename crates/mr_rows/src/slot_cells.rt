@@ -148,30 +148,13 @@ pub(crate) fn read_cancelled(alloc: Global, row: &Row) -> Result<CancelledRow, E
     ensures told { IfOk result (λ _. IsTrue (are_cancelled_cells row.now)) }
     ensures refused { IfErr result (λ e. e ≢ Error.SqliteFailure ErrorCode.OutOfMemory → are_cancelled_cells row.now ≡ false) }
 {
-    let SlotCells {
-        room,
-        day,
-        span,
-        id,
-        title,
-    } = read_slot(alloc, row)?;
-    let committed = read_mark(row, 7)?;
+    let booking = read_booking(alloc, row)?;
     let by = read_id(row, 8)?;
-    Ok(CancelledRow {
-        room,
-        day,
-        start: span.0,
-        stop: span.1,
-        server: id.server,
-        n: id.n,
-        title,
-        committed,
-        by,
-    })
+    Ok(CancelledRow { booking, by })
 }
 
 pub(crate) fn has_cancelled(row: &Row) -> bool
     ensures { result ≡ are_cancelled_cells row.now }
 {
-    has_slot(row) && has_mark(row, 7) && has_id(row, 8)
+    has_booking(row) && has_id(row, 8)
 }

@@ -10,7 +10,9 @@ ghost use Rattle.mr_model.specs.Tables.{Tables};
 ghost use Rattle.mr_tables.specs.TableOrders.{IsOrder};
 ghost use Rattle.mr_rows.specs.Form.{Form};
 ghost use Rattle.mr_rows.specs.Shown.{columns_from, IsShownAs};
-ghost use Rattle.mr_rows.specs.Database.{MakesTables, tables_in};
+ghost use Rattle.mr_rows.specs.Schema.{our_schema};
+ghost use Rattle.mr_rows.specs.Database.{AreHeld, tables_in};
+ghost use Rattle.mr_rows.specs.TableSteps.{PutsRow, TakesRow, IsTableOf};
 ghost use Rattle.mr_rows.specs.Causes.{AsksAll};
 
 use mr_base::WriteId;
@@ -45,6 +47,12 @@ pub trait StoredRow: TableRow {
         ensures passes { OnOk result (IsShownAs form row.now) }
         ensures refused { IfErr result (λ _. ¬ IsShownAs form row.now) };
 
+    /// Puts the row in place of the one with its key, if there is one.
+    fn put<S: Alter>(&self, tx: &mut Transaction<'_, S>, alloc: Global) -> Result<usize, Error>
+        ensures same_reference { tx.new.conn.ghost_name ≡ tx.old.conn.ghost_name }
+        ensures put { PutsRow stands_in form self.now (state S.Store tx.old.conn.now) (state S.Store tx.new.conn.now) result }
+        ensures survives { Survives (state S.Store tx.old.conn.now) (state S.Store tx.new.conn.now) (λ _. ⊥) };
+
     // what is read of the columns that a query shows is read of the stored row
     ghost shown_as: { (r : Cells) → form.row_in (Null ∷ columns_from 1 (length form.table.columns) r) ≡ form.row_in r };
 
@@ -56,36 +64,24 @@ pub trait StoredRow: TableRow {
 
 /// A row of a table of ours.
 pub trait OurRow: StoredRow {
-    // the tables with these rows put, one after the other
-    ghost put_in: { List Self → Tables → Tables };
+    ghost rows_of: { Tables → List Self };
 
-    /// Puts the row in place of the one with its key, if there is one.
-    fn put<S: Alter>(&self, tx: &mut Transaction<'_, S>, alloc: Global) -> Result<usize, Error>
-        ensures same_reference { tx.new.conn.ghost_name ≡ tx.old.conn.ghost_name }
-        ensures put { MakesTables (state S.Store tx.old.conn.now) (state S.Store tx.new.conn.now)
-            (put_in (self.now ∷ []) (tables_in (state S.Store tx.old.conn.now).now.trees)) result }
-        ensures survives { Survives (state S.Store tx.old.conn.now) (state S.Store tx.new.conn.now) (λ _. ⊥) };
+    ghost with_rows: { List Self → Tables → Tables };
 
-    ghost put_none: { (t : Tables) → put_in [] t ≡ t };
+    ghost is_ours: { IsTableOf AreHeld tables_in Self.StoredRow.form rows_of with_rows };
 
-    ghost put_more: { (x : Self) (xs : List Self) (t : Tables) → put_in (x ∷ xs) t ≡ put_in xs (put_in (x ∷ []) t) };
+    ghost stands: { Self.StoredRow.stands_in our_schema };
 }
 
 /// A row of a table that has one row for each request.
-pub(crate) trait RequestRow: StoredRow {
-    // the tables without the rows of these requests
-    ghost take_from: { List Id → Tables → Tables };
+pub(crate) trait RequestRow: OurRow {
+    ghost id_of: { Self → Id };
 
     /// Takes the row with the id away, if there is one.
     fn take<S: Alter>(tx: &mut Transaction<'_, S>, id: WriteId) -> Result<usize, Error>
         ensures same_reference { tx.new.conn.ghost_name ≡ tx.old.conn.ghost_name }
-        ensures taken { MakesTables (state S.Store tx.old.conn.now) (state S.Store tx.new.conn.now)
-            (take_from (id ∷ []) (tables_in (state S.Store tx.old.conn.now).now.trees)) result }
+        ensures taken { TakesRow our_schema Self.form id_of id (state S.Store tx.old.conn.now) (state S.Store tx.new.conn.now) result }
         ensures survives { Survives (state S.Store tx.old.conn.now) (state S.Store tx.new.conn.now) (λ _. ⊥) };
-
-    ghost take_none: { (t : Tables) → take_from [] t ≡ t };
-
-    ghost take_more: { (id : Id) (ids : List Id) (t : Tables) → take_from (id ∷ ids) t ≡ take_from ids (take_from (id ∷ []) t) };
 }
 
 /// The rows of an answer, in its order.

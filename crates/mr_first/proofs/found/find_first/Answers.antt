@@ -1,4 +1,4 @@
-use Rattle.std.proofs.Common.{◌≡◌, ◌≤◌, inr, Ok, length, refl, rules}
+use Rattle.std.proofs.Common.{◌≤◌, inr, length, refl, rules}
 use Rattle.std.specs.Prelude.{false, IsTrue}
 use Rattle.sqlite.specs.Held.{state}
 use Rattle.mr_rows.specs.Schema.{first_schema}

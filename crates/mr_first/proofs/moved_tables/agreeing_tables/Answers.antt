@@ -1,4 +1,4 @@
-use Rattle.std.proofs.Common.{◌≡◌, ◌≢◌, ◌∙◌, true, sym, ap, subst, Ok, Err, Result, IfErr, rules}
+use Rattle.std.proofs.Common.{◌≡◌, ◌∙◌, true, sym, ap, subst, rules}
 use Rattle.sqlite_trees.specs.Tree.{Trees}
 use Rattle.mr_model.specs.First.{FirstTables, moved}
 use Rattle.mr_model.specs.Changes.{AreInKeyOrder}

@@ -2,7 +2,7 @@ use Rattle.std.proofs.Common.{◌≡◌, subst, sym, rules}
 use Rattle.std.specs.Prelude.{bytes_eq}
 use Rattle.std.specs.List.Sorted.{IsPermutation}
 use Rattle.sqlite.specs.Held.{state}
-use Rattle.mr_rows.specs.Asked.{AreChosen}
+use Rattle.mr_rows.specs.RowsAsked.{AreChosen}
 use Rattle.mr_rows.proofs.QueryLemmas.{looks_made, told_so}
 use Rattle.mr_rows.proofs.CauseLemmas.{chosen_fails}
 use Rattle.mr_rows.proofs.asked_rows.rows_in.Goals as goal

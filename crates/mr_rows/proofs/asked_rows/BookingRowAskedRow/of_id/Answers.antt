@@ -1,11 +1,17 @@
+use Rattle.std.proofs.Common.{refl}
+use Rattle.sqlite_tied.specs.Compute.{everything}
+use Rattle.sqlite.specs.Listing.{understood}
 use Rattle.mr_model.specs.Queries.{booking_id}
 use Rattle.mr_rows.specs.RowCells.{booking_row_from}
+use Rattle.mr_rows.specs.Form.{booking_form}
+use Rattle.mr_rows.proofs.TableFacts.{booking_facts}
 use Rattle.mr_rows.proofs.FirstLemmas.{first_found}
-use Rattle.mr_rows.proofs.AskedTexts.{key_booking_asks}
+use Rattle.mr_rows.proofs.AskedTexts.{id_asks}
 use Rattle.mr_rows.proofs.asked_rows.BookingRowAskedRow.of_id.Goals as goal
 
 pub returns-clause-asks : goal.returns-clause-asks
-returns-clause-asks c = key_booking_asks
+unfolding understood everything
+returns-clause-asks c = id_asks booking_form booking_facts _ 5 6 ((refl, (refl, refl)), refl) (λ x v. refl) (λ x v. refl) (λ id r is. refl) (λ id r is. is) refl (λ id. refl)
 
 pub returns-clause-one : goal.returns-clause-one
 returns-clause-one c = first_found booking_id booking_row_from

@@ -1,5 +1,11 @@
-use Rattle.mr_rows.proofs.AskedTexts.{room_cancel_asks}
+use Rattle.std.proofs.Common.{refl}
+use Rattle.sqlite_tied.specs.Compute.{everything}
+use Rattle.sqlite.specs.Listing.{understood}
+use Rattle.mr_rows.specs.Form.{cancel_form}
+use Rattle.mr_rows.proofs.TableFacts.{cancel_facts}
+use Rattle.mr_rows.proofs.AskedTexts.{room_asks}
 use Rattle.mr_rows.proofs.asked_rows.CancelRowAskedRow.of_room.Goals as goal
 
 pub returns : goal.returns
-returns c = room_cancel_asks
+unfolding understood everything
+returns c = room_asks cancel_form cancel_facts _ 3 (λ row. row.room) ((refl, (refl, refl)), refl) (λ x v. refl) (λ room r is. refl) (λ room r is. is) refl (λ room. refl)

@@ -1,11 +1,17 @@
+use Rattle.std.proofs.Common.{refl}
+use Rattle.sqlite_tied.specs.Compute.{everything}
+use Rattle.sqlite.specs.Listing.{understood}
 use Rattle.mr_model.specs.Queries.{cancelled_id}
 use Rattle.mr_rows.specs.RowCells.{cancelled_in}
+use Rattle.mr_rows.specs.Form.{cancelled_form}
+use Rattle.mr_rows.proofs.TableFacts.{cancelled_facts}
 use Rattle.mr_rows.proofs.FirstLemmas.{first_found}
-use Rattle.mr_rows.proofs.AskedTexts.{key_cancelled_asks}
+use Rattle.mr_rows.proofs.AskedTexts.{id_asks}
 use Rattle.mr_rows.proofs.asked_rows.CancelledRowAskedRow.of_id.Goals as goal
 
 pub returns-clause-asks : goal.returns-clause-asks
-returns-clause-asks c = key_cancelled_asks
+unfolding understood everything
+returns-clause-asks c = id_asks cancelled_form cancelled_facts _ 5 6 ((refl, (refl, refl)), refl) (λ x v. refl) (λ x v. refl) (λ id r is. refl) (λ id r is. is) refl (λ id. refl)
 
 pub returns-clause-one : goal.returns-clause-one
 returns-clause-one c = first_found cancelled_id cancelled_in

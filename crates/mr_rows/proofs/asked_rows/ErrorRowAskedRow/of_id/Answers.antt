@@ -1,11 +1,17 @@
+use Rattle.std.proofs.Common.{refl}
+use Rattle.sqlite_tied.specs.Compute.{everything}
+use Rattle.sqlite.specs.Listing.{understood}
 use Rattle.mr_model.specs.Queries.{error_id}
 use Rattle.mr_rows.specs.RowCells.{error_in}
+use Rattle.mr_rows.specs.Form.{error_form}
+use Rattle.mr_rows.proofs.TableFacts.{error_facts}
 use Rattle.mr_rows.proofs.FirstLemmas.{first_found}
-use Rattle.mr_rows.proofs.AskedTexts.{key_error_asks}
+use Rattle.mr_rows.proofs.AskedTexts.{id_asks}
 use Rattle.mr_rows.proofs.asked_rows.ErrorRowAskedRow.of_id.Goals as goal
 
 pub returns-clause-asks : goal.returns-clause-asks
-returns-clause-asks c = key_error_asks
+unfolding understood everything
+returns-clause-asks c = id_asks error_form error_facts _ 5 6 ((refl, (refl, refl)), refl) (λ x v. refl) (λ x v. refl) (λ id r is. refl) (λ id r is. is) refl (λ id. refl)
 
 pub returns-clause-one : goal.returns-clause-one
 returns-clause-one c = first_found error_id error_in
