@@ -19,13 +19,14 @@ use Rattle.mr_model.specs.Replica.{is_among}
 use Rattle.mr_model.specs.Writes.{Id, same_id}
 use Rattle.mr_model.proofs.Members.{Sorted, all_has, has_all, has_any, has_filter, filter_has, has_filter_map, filter_map_has, find_has, find_one, sorted_filter, same_id-true, same_id_from}
 use Rattle.mr_model.proofs.UniqueReplay.{some_inj, none_some}
-use Rattle.mr_replay.proofs.IdKeys.{is_eq-Equal}
+use Rattle.mr_base.specs.Ids.{id_cmp}
+use Rattle.mr_replay.proofs.IdKeys.{exact_ids, ids_total, is_eq-Equal}
 use Rattle.mr_tables.specs.Change.{id_before, put, rows_without}
 use Rattle.mr_tables.specs.TableOrders.{InOrder, id_order}
 use Rattle.mr_tables.proofs.Putting.{put_has, put_in_order}
 use Rattle.mr_store.specs.declared.row_key.RowKey.{RowKey}
 use Rattle.mr_store.specs.Keyed.{if_passes}
-use Rattle.mr_store.specs.RowKeys.{key_cmp, key_before, id_in, has, row_at, is_between, IsIndexed, AreBetween}
+use Rattle.mr_store.specs.RowKeys.{key_cmp, key_before, has, row_at, is_between, IsIndexed, AreBetween}
 use Rattle.mr_store.proofs.RowsById.{one_row}
 use Rattle.mr_store.proofs.SameMembers.{apart_from, permuted}
 
@@ -33,10 +34,10 @@ use Rattle.mr_store.proofs.SameMembers.{apart_from, permuted}
 
 exact_keys : CmpEqualImpliesEq key_cmp
 exact_keys a b h =
-    ap (λ (p : List ℕ × (ℕ × (ℕ × (ℕ × (ℕ × (ℕ × (ℕ × (ℕ × ℕ)))))))). record { room = p.0; edge = (p.1).0; number = ((p.1).1).0; month = (((p.1).1).1).0; day = ((((p.1).1).1).1).0; day_edge = (((((p.1).1).1).1).1).0; start = ((((((p.1).1).1).1).1).1).0; server = (((((((p.1).1).1).1).1).1).1).0; n = (((((((p.1).1).1).1).1).1).1).1 })
-    (exact_pairs (slice_cmp nat_cmp) _ exact_bytes
-    (exact_pairs nat_cmp _ exact_unsigned (exact_pairs nat_cmp _ exact_unsigned (exact_pairs nat_cmp _ exact_unsigned (exact_pairs nat_cmp _ exact_unsigned (exact_pairs nat_cmp _ exact_unsigned (exact_pairs nat_cmp _ exact_unsigned (exact_pairs nat_cmp nat_cmp exact_unsigned exact_unsigned)))))))
-    (a.room, (a.edge, (a.number, (a.month, (a.day, (a.day_edge, (a.start, (a.server, a.n)))))))) (b.room, (b.edge, (b.number, (b.month, (b.day, (b.day_edge, (b.start, (b.server, b.n)))))))) h)
+    ap (λ (p : ℕ × (List ℕ × (ℕ × (ℕ × (ℕ × (ℕ × (ℕ × (ℕ × Id)))))))). record { edge = p.0; room = (p.1).0; room_edge = ((p.1).1).0; number = (((p.1).1).1).0; month = ((((p.1).1).1).1).0; day = (((((p.1).1).1).1).1).0; day_edge = ((((((p.1).1).1).1).1).1).0; start = (((((((p.1).1).1).1).1).1).1).0; id = (((((((p.1).1).1).1).1).1).1).1 })
+    (exact_pairs nat_cmp _ exact_unsigned (exact_pairs (slice_cmp nat_cmp) _ exact_bytes
+    (exact_pairs nat_cmp _ exact_unsigned (exact_pairs nat_cmp _ exact_unsigned (exact_pairs nat_cmp _ exact_unsigned (exact_pairs nat_cmp _ exact_unsigned (exact_pairs nat_cmp _ exact_unsigned (exact_pairs nat_cmp id_cmp exact_unsigned exact_ids)))))))
+    (a.edge, (a.room, (a.room_edge, (a.number, (a.month, (a.day, (a.day_edge, (a.start, a.id)))))))) (b.edge, (b.room, (b.room_edge, (b.number, (b.month, (b.day, (b.day_edge, (b.start, b.id)))))))) h)
 
 pub same_key : (k q : RowKey) → is_at (key_cmp k) q ≡ true → k ≡ q
 same_key k q e = exact_keys k q (is_eq-Equal (key_cmp k q) e)
@@ -48,7 +49,7 @@ pub tied_names : (room : List ℕ) (o : Ordering) → ordering_then (slice_cmp n
 tied_names room o = ap (λ x. ordering_then x o) (tied_itself nat_list_cmp_total room)
 
 pub at_itself : (k : RowKey) → key_cmp k k ≡ Equal
-at_itself k = tied_names k.room _ ∙ tied k.edge _ ∙ tied k.number _ ∙ tied k.month _ ∙ tied k.day _ ∙ tied k.day_edge _ ∙ tied k.start _ ∙ tied k.server _ ∙ tied_itself nat_cmp_total k.n
+at_itself k = tied k.edge _ ∙ tied_names k.room _ ∙ tied k.room_edge _ ∙ tied k.number _ ∙ tied k.month _ ∙ tied k.day _ ∙ tied k.day_edge _ ∙ tied k.start _ ∙ tied_itself ids_total k.id
 
 keys_rise : (ks : List RowKey) → IsStrictlySortedBy key_cmp ks → Sorted (λ a b. key_before a b ≡ true) ks
 unfolding IsStrictlySortedBy
@@ -67,12 +68,12 @@ still key k old there = go (is_at (key_cmp key) k)
 pub left : (key k : RowKey) (old : BTreeSet RowKey) → is_at (key_cmp key) k ≡ false → has old k ≡ true → cond (is_at (key_cmp key) k) false (has old k) ≡ true
 left key k old other there = ap (λ b. cond b false (has old k)) other ∙ there
 
-module _ {R : Type 0} (id : R → Id) (key : R → RowKey) (has_id : (r : R) → id_in (key r) ≡ id r) where
+module _ {R : Type 0} (id : R → Id) (key : R → RowKey) (has_id : (r : R) → RowKey.id (key r) ≡ id r) where
   -- ---- which keys stay
 
   -- rows of different ids have different keys
   keys_apart : (r x : R) → (id r ≡ id x → ⊥) → is_at (key_cmp (key x)) (key r) ≡ false
-  keys_apart r x differ = false_from_ne_true (is_at (key_cmp (key x)) (key r)) (λ e. differ (sym (has_id r) ∙ sym (ap id_in (same_key (key x) (key r) e)) ∙ has_id x))
+  keys_apart r x differ = false_from_ne_true (is_at (key_cmp (key x)) (key r)) (λ e. differ (sym (has_id r) ∙ sym (ap RowKey.id (same_key (key x) (key r) e)) ∙ has_id x))
 
   found_apart : (r : R) (i : Id) (rows : List R) (o : Option R) → find (λ x. same_id (id x) i) rows ≡ o → (id r ≡ i → ⊥) → IfSome o (λ x. is_at (key_cmp (key x)) (key r) ≡ false)
   found_apart r i rows None e differ = tt
@@ -124,14 +125,14 @@ module _ {R : Type 0} (id : R → Id) (key : R → RowKey) (has_id : (r : R) →
   module _ (rows : List R) where
     -- a row that its key finds
     at_has : (k : RowKey) (r : R) → row_at id key rows k ≡ Some r → Has r rows × (key r ≡ k)
-    at_has k r h = go (find (λ x. same_id (id x) (id_in k)) rows) refl h
+    at_has k r h = go (find (λ x. same_id (id x) k.id) rows) refl h
       where
-        passed : (x : R) → find (λ x. same_id (id x) (id_in k)) rows ≡ Some x → (b : Bool) → is_eq (key_cmp (key x) k) ≡ b → cond b (Some x) None ≡ Some r → Has r rows × (key r ≡ k)
+        passed : (x : R) → find (λ x. same_id (id x) k.id) rows ≡ Some x → (b : Bool) → is_eq (key_cmp (key x) k) ≡ b → cond b (Some x) None ≡ Some r → Has r rows × (key r ≡ k)
         passed x e true is h =
-            subst (λ y. Has y rows × (key y ≡ k)) (some_inj x r h) ((find_has (λ x. same_id (id x) (id_in k)) x rows e).0, same_key (key x) k is)
+            subst (λ y. Has y rows × (key y ≡ k)) (some_inj x r h) ((find_has (λ x. same_id (id x) k.id) x rows e).0, same_key (key x) k is)
         passed x e false is h = absurd (none_some r h)
 
-        go : (o : Option R) → find (λ x. same_id (id x) (id_in k)) rows ≡ o → if_passes (λ x. is_eq (key_cmp (key x) k)) o ≡ Some r → Has r rows × (key r ≡ k)
+        go : (o : Option R) → find (λ x. same_id (id x) k.id) rows ≡ o → if_passes (λ x. is_eq (key_cmp (key x) k)) o ≡ Some r → Has r rows × (key r ≡ k)
         go None e h = absurd (none_some r h)
         go (Some x) e h = passed x e (is_eq (key_cmp (key x) k)) refl h
 
@@ -139,7 +140,7 @@ module _ {R : Type 0} (id : R → Id) (key : R → RowKey) (has_id : (r : R) →
     at_own : (r : R) → InOrder id_before id rows → Has r rows → row_at id key rows (key r) ≡ Some r
     at_own r order h =
         ap (if_passes (λ x. is_eq (key_cmp (key x) (key r))))
-        (find_one (λ x. same_id (id x) (id_in (key r))) r rows h (same_id_from (id r) (id_in (key r)) (sym (has_id r))) (λ y g e. one_row id rows order y r g h (same_id-true (id y) (id_in (key r)) e ∙ has_id r)))
+        (find_one (λ x. same_id (id x) (RowKey.id (key r))) r rows h (same_id_from (id r) (RowKey.id (key r)) (sym (has_id r))) (λ y g e. one_row id rows order y r g h (same_id-true (id y) (RowKey.id (key r)) e ∙ has_id r)))
         ∙ ap (λ o. cond (is_eq o) (Some r) None) (at_itself (key r))
 
     -- rows of keys that rise stand in the order of their keys
@@ -188,7 +189,7 @@ none_copied f None b e none = refl
 none_copied f (Some x) b e none = absurd (true≢false (e ∙ ap not none))
 
 -- it is taken out
-pub index_forget : {R : Type 0} (id : R → Id) (key : R → RowKey) (has_id : (r : R) → id_in (key r) ≡ id r) (k : RowKey) (rows : List R) (old new : BTreeSet RowKey) → IsIndexed id key rows old → row_at id key rows k ≡ None → ((q : RowKey) → has new q ≡ cond (is_at (key_cmp k) q) false (has old q)) → IsIndexed id key rows new
+pub index_forget : {R : Type 0} (id : R → Id) (key : R → RowKey) (has_id : (r : R) → RowKey.id (key r) ≡ id r) (k : RowKey) (rows : List R) (old new : BTreeSet RowKey) → IsIndexed id key rows old → row_at id key rows k ≡ None → ((q : RowKey) → has new q ≡ cond (is_at (key_cmp k) q) false (has old q)) → IsIndexed id key rows new
 index_forget {R} id key has_id k rows old new all none is = record { order = all.order; noted = λ r h. is (key r) ∙ left k (key r) old (other r h) (all.noted r h) }
   where
     other : (r : R) → Has r rows → is_at (key_cmp k) (key r) ≡ false

@@ -1,10 +1,11 @@
 -- Rows put and taken back, and rows taken away once others are put.
-use Rattle.std.proofs.Common.{◌≡◌, refl, sym, ap, ◌∙◌, subst, ℕ, Bool, true, false, cond, not, ◌||◌, List, [], ◌∷◌, ◌⊎◌, inl, inr, Option, Some, None, Result, Ok, Err, length, reverse, ◌<◌, arith}
+use Rattle.std.proofs.Common.{◌≡◌, refl, sym, ap, ◌∙◌, subst, Bool, true, false, cond, not, ◌||◌, List, [], ◌∷◌, ◌++◌, ◌⊎◌, inl, inr, Option, Some, None, Result, Ok, Err, length, reverse, ◌<◌, arith}
 use Rattle.std.specs.Prelude.{OnOk, OnErr}
 use Rattle.std.specs.BTreeMap.{is_at}
-use Rattle.std.specs.BTreeSet.{BTreeSet, contains}
+use Rattle.std.specs.BTreeSet.{BTreeSet, InsertsAll}
 use Rattle.std.specs.List.{filter, find, list_any}
 use Rattle.std.proofs.lemmas.Bool.{true≢false, false_from_ne_true}
+use Rattle.std.proofs.lemmas.List.{reverse-append}
 use Rattle.mr_model.specs.Dropped.{Has}
 use Rattle.mr_model.specs.Replica.{is_among}
 use Rattle.mr_model.specs.Writes.{Id, same_id}
@@ -13,9 +14,9 @@ use Rattle.mr_model.proofs.UniqueReplay.{none_some}
 use Rattle.mr_tables.specs.Change.{id_before, put, put_all, rows_without}
 use Rattle.mr_tables.specs.TableOrders.{InOrder, id_order}
 use Rattle.mr_tables.proofs.Putting.{has_put, has_without, in_order_same, put_has, put_in_order, without_has}
+use Rattle.mr_base.specs.Ids.{id_cmp}
 use Rattle.mr_replay.proofs.IdKeys.{at_is, same_id_equivalence}
 use Rattle.mr_store.specs.Journal.{AreSteps, IsStep, is_going, rows_but}
-use Rattle.mr_store.specs.Keyed.{cells_cmp, cells_of_id}
 use Rattle.mr_store.proofs.RowsById.{one_row}
 
 -- a row that isn't found isn't there
@@ -176,50 +177,43 @@ module _ {R : Type 0} (id : R → Id) where
 
   -- ---- steps
 
+  -- the last one is first
+  pub last_step : (knows : R → Type 0) (steps : List (Id × Option R)) (step : Id × Option R) (before now : List R) → AreSteps id knows (reverse (steps ++ step ∷ [])) before now → (mid : List R) × IsStep id knows step mid now × AreSteps id knows (reverse steps) before mid
+  last_step knows steps step before now h = subst (λ xs. AreSteps id knows xs before now) (reverse-append steps (step ∷ [])) h
+
   -- more keys are known
-  pub steps_more : (knows more : R → Type 0) → ((r : R) → knows r → more r) → (steps : List ((ℕ × ℕ) × Option R)) (before now : List R) → AreSteps id knows steps before now → AreSteps id more steps before now
+  pub steps_more : (knows more : R → Type 0) → ((r : R) → knows r → more r) → (steps : List (Id × Option R)) (before now : List R) → AreSteps id knows steps before now → AreSteps id more steps before now
   steps_more knows more up [] before now h = h
-  steps_more knows more up (step ∷ older) before now (mid, one, rest) = (mid, record { row = one.row; order = one.order; put = one.put; cells = one.cells; old = one.old; known = λ r h. up r (one.known r h) }, steps_more knows more up older before mid rest)
+  steps_more knows more up (step ∷ older) before now (mid, one, rest) = (mid, record { row = one.row; order = one.order; put = one.put; its_id = one.its_id; old = one.old; known = λ r h. up r (one.known r h) }, steps_more knows more up older before mid rest)
 
--- ---- cells
+-- ---- sets of ids
 
--- a set without these cells has the other ids
-pub at_cells : (i j : Id) → is_at (cells_cmp (cells_of_id i)) (cells_of_id j) ≡ same_id j i
-at_cells i j = (λ t. at_is t i j) ∙ same_id_equivalence.symm i j
+-- a set without this one has the others
+pub at_id : (i j : Id) → is_at (id_cmp i) j ≡ same_id j i
+at_id i j = (λ t. at_is t i j) ∙ same_id_equivalence.symm i j
 
--- one more of those that go
-pub gone_next : (x i : Id) (rest : List Id) (old new : BTreeSet (ℕ × ℕ)) → ((q : ℕ × ℕ) → contains cells_cmp new q ≡ cond (is_at (cells_cmp (cells_of_id x)) q) true (contains cells_cmp old q)) → (is_going new i || is_among i rest) ≡ (is_going old i || is_among i (x ∷ rest))
-gone_next x i rest old new is =
-    ap (λ b. b || is_among i rest) (is (cells_of_id i) ∙ ap (λ b. cond b true (is_going old i)) (at_cells x i))
-    ∙ either (same_id i x) (is_going old i)
-  where
-    either : (s o : Bool) → (cond s true o || is_among i rest) ≡ (o || (s || is_among i rest))
-    either true true = refl
-    either true false = refl
-    either false o = refl
+-- those that go are put into a set that has none
+pub going_all : (old new : BTreeSet Id) (gone : List Id) → old.keys ≡ [] → InsertsAll id_cmp old gone new → (i : Id) → is_going new i ≡ is_among i gone
+going_all old new gone none made i = made.0 i ∙ ap (λ ids. list_any (is_at (id_cmp i)) ids || list_any (is_at (id_cmp i)) gone) none ∙ (λ t. list_any (at_is t i) gone)
 
-pub none_going : (going : BTreeSet (ℕ × ℕ)) → (0 < length going.keys → ⊥) → (i : Id) → is_going going i ≡ false
+pub none_going : (going : BTreeSet Id) → (0 < length going.keys → ⊥) → (i : Id) → is_going going i ≡ false
 none_going going none i = go going.keys none
   where
-    go : (cells : List (ℕ × ℕ)) → (0 < length cells → ⊥) → list_any (is_at (cells_cmp (cells_of_id i))) cells ≡ false
+    go : (ids : List Id) → (0 < length ids → ⊥) → list_any (is_at (id_cmp i)) ids ≡ false
     go [] none = refl
-    go (x ∷ cells) none = absurd (none (omega arith))
-
-pub or_none : (b : Bool) → b ≡ (b || false)
-or_none true = refl
-or_none false = refl
+    go (x ∷ ids) none = absurd (none (omega arith))
 
 -- ---- one step back
 
 module _ {R : Type 0} (id : R → Id) (knows : R → Type 0) where
   -- where a row was new
-  pub taken_back : (cells : ℕ × ℕ) (before now new : List R) → IsStep id knows (cells, None) before now → ((i : Id) → cells ≡ cells_of_id i → new ≡ rows_without id (i ∷ []) now) → new ≡ before
-  taken_back cells before now new step taken =
-      taken (id step.row) step.cells ∙ ap (rows_without id (id step.row ∷ [])) step.put ∙ new_back id step.row before step.order (sym step.old)
+  pub taken_back : (i : Id) (before now new : List R) → IsStep id knows (i, None) before now → new ≡ rows_without id (i ∷ []) now → new ≡ before
+  taken_back i before now new step taken =
+      taken ∙ ap (λ j. rows_without id (j ∷ []) now) step.its_id ∙ ap (rows_without id (id step.row ∷ [])) step.put ∙ new_back id step.row before step.order (sym step.old)
 
   -- where it came in the place of another, which is put again
-  pub put_again : {X E : Type 0} (cells : ℕ × ℕ) (row : R) (before now new : List R) (r : Result X E) → IsStep id knows (cells, Some row) before now → OnOk r (new ≡ put id_before id row now) → (knows row → OnErr r (find (λ x. same_id (id x) (id row)) now ≡ None)) → new ≡ before
-  put_again {X} {E} cells row before now new r step made absent = go r made (absent (step.known row there.0))
+  pub put_again : {X E : Type 0} (i : Id) (row : R) (before now new : List R) (r : Result X E) → IsStep id knows (i, Some row) before now → OnOk r (new ≡ put id_before id row now) → (knows row → OnErr r (find (λ x. same_id (id x) (id row)) now ≡ None)) → new ≡ before
+  put_again {X} {E} i row before now new r step made absent = go r made (absent (step.known row there.0))
     where
       there : Has row before × (same_id (id row) (id step.row) ≡ true)
       there = find_has (λ x. same_id (id x) (id step.row)) row before (sym step.old)
@@ -232,6 +226,6 @@ module _ {R : Type 0} (id : R → Id) (knows : R → Type 0) where
           (ap (find (λ x. same_id (id x) (id row))) (sym step.put) ∙ absent)))
 
   -- no step is left
-  pub steps_none : (steps : List ((ℕ × ℕ) × Option R)) (before now : List R) → length steps ≡ 0 → AreSteps id knows (reverse steps) before now → now ≡ before
+  pub steps_none : (steps : List (Id × Option R)) (before now : List R) → length steps ≡ 0 → AreSteps id knows (reverse steps) before now → now ≡ before
   steps_none [] before now none h = h
   steps_none (x ∷ steps) before now none h = absurd (omega (arith, none))

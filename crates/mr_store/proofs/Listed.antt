@@ -34,13 +34,13 @@ module _ (room : Text) (day : Option Date) where
   -- ---- the ends
 
   -- the key of a row of the room and the day is between the ends
-  pub inside : (name : Text) (date : Date) (start : ℕ) (i : Id) → bytes_eq name room ≡ true → is_day_asked day date ≡ true → is_between (end_key 0 room day) (end_key 2 room day) (key_at name 1 date 1 start i) ≡ true
+  pub inside : (name : Text) (date : Date) (start : ℕ) (i : Id) → bytes_eq name room ≡ true → is_day_asked day date ≡ true → is_between (end_key 0 room day) (end_key 2 room day) (key_at 1 name 1 date 1 start i) ≡ true
   inside name date start i same on = within day (one_name name room same) on
     where
       names : name ≡ room → (o : Ordering) → ordering_then (slice_cmp nat_cmp (padded room) (padded name)) o ≡ o
       names is o = ap (λ n. ordering_then (slice_cmp nat_cmp (padded room) (padded n)) o) is ∙ tied_names (padded room) o
 
-      within : (d : Option Date) → name ≡ room → is_day_asked d date ≡ true → is_between (end_key 0 room d) (end_key 2 room d) (key_at name 1 date 1 start i) ≡ true
+      within : (d : Option Date) → name ≡ room → is_day_asked d date ≡ true → is_between (end_key 0 room d) (end_key 2 room d) (key_at 1 name 1 date 1 start i) ≡ true
       within None is on = and_from _ _ (ap is_le (names is Less)) (ap (λ o. not (is_lt o)) (names is Greater))
       within (Some d) is on =
           let days : date ≡ d = same_date-true date d on in

@@ -1,5 +1,5 @@
 -- Rows that a batch names are put beside those that are there, one item after the other.
-use Rattle.std.proofs.Common.{◌≡◌, ℕ, ◌==◌, Bool, true, false, not, ◌&&◌, ◌||◌, List, [], ◌∷◌, ◌++◌, map, ◌⊎◌, inl, inr, refl, sym, ap, ◌∙◌}
+use Rattle.std.proofs.Common.{◌≡◌, ℕ, ◌==◌, Bool, true, false, not, ◌&&◌, ◌||◌, List, [], ◌∷◌, ◌++◌, map, ◌⊎◌, inl, inr, refl, sym, ap, subst, ◌∙◌}
 use Rattle.std.proofs.lemmas.Bool.{or_cases, or_left, or_right}
 use Rattle.std.specs.List.{filter, list_any}
 use Rattle.mr_model.specs.Dropped.{Has}
@@ -13,6 +13,7 @@ use Rattle.mr_model.proofs.Members.{filter_has, has_filter, has_left, has_right,
 use Rattle.mr_tables.specs.Change.{id_before, put_all}
 use Rattle.mr_tables.specs.TableOrders.{InOrder, id_order}
 use Rattle.mr_tables.proofs.Putting.{puts_make}
+use Rattle.mr_store.specs.declared.row_key.RowKey.{RowKey}
 use Rattle.mr_store.specs.RowKeys.{is_between, log_key, number_end, AreBetween, AreThose}
 use Rattle.mr_store.proofs.LogEnds.{number_between}
 
@@ -30,9 +31,34 @@ puts_those {R} id p q all xs order those =
     from r h (inl e) = inr (has_filter p r all e h)
     from r h (inr e) = inl (those.1 r h e)
 
--- rows in order, put where none are
-pub put_all_new : {R : Type 0} (id : R → Id) (rows : List R) → InOrder id_before id rows → put_all id_before id rows [] ≡ rows
-put_all_new id rows order = puts_make id_before id id_order rows [] rows tt order (λ r h. h) (λ r h lacks. absurd h) (λ r h. inl h)
+pub none_picked : {R : Type 0} (rows : List R) → filter (λ r. false) rows ≡ []
+none_picked [] = refl
+none_picked (x ∷ rows) = none_picked rows
+
+-- where none are
+pub puts_first : {R : Type 0} (id : R → Id) (q : R → Bool) (all xs : List R) → InOrder id_before id all → AreThose q all xs → put_all id_before id xs [] ≡ filter q all
+puts_first id q all xs order those = ap (put_all id_before id xs) (sym (none_picked all)) ∙ puts_those id (λ r. false) q all xs order those
+
+-- those of two lists
+pub those_both : {R : Type 0} (p q : R → Bool) (all xs ys : List R) → AreThose p all xs → AreThose q all ys → AreThose (λ r. p r || q r) all (xs ++ ys)
+those_both {R} p q all xs ys a b = (λ r h. own r (has_split r xs ys h), λ r h passes. each r h (or_cases (p r) (q r) passes))
+  where
+    own : (r : R) → Has r xs ⊎ Has r ys → Has r all × ((p r || q r) ≡ true)
+    own r (inl g) = let (there, passes) = a.0 r g in (there, or_left (p r) (q r) passes)
+    own r (inr g) = let (there, passes) = b.0 r g in (there, or_right (p r) (q r) passes)
+
+    each : (r : R) → Has r all → (p r ≡ true) ⊎ (q r ≡ true) → Has r (xs ++ ys)
+    each r h (inl passes) = has_left r xs ys (a.1 r h passes)
+    each r h (inr passes) = has_right r xs ys (b.1 r h passes)
+
+pub those_same : {R : Type 0} (p q : R → Bool) (all xs : List R) → ((r : R) → p r ≡ q r) → AreThose p all xs → AreThose q all xs
+those_same p q all xs same = subst (λ f. AreThose f all xs) (λ t r. same r t)
+
+pub those_picked : {R : Type 0} (p : R → Bool) (all : List R) → AreThose p all (filter p all)
+those_picked p all = (λ r h. filter_has p r all h, λ r h passes. has_filter p r all passes h)
+
+pub those_between : {R : Type 0} (key : R → RowKey) (first last : RowKey) (all rows : List R) → AreBetween key first last all rows → AreThose (λ r. is_between first last (key r)) all rows
+those_between key first last all rows found = (found.own, found.each)
 
 -- ---- an item
 
@@ -51,34 +77,18 @@ commit_alone false false n = refl
 
 -- the row of a write
 pub write_those : (w : Write) (i : Id) (all : List LogRow) → i ≡ id_of w → AreThose (is_named (W w ∷ [])) all (filter (λ r. same_id (log_id r) i) all)
-write_those w i all is = (
-  λ r h. let (there, same) = filter_has (λ r. same_id (log_id r) i) r all h in (there, tells r ∙ same),
-  λ r h named. has_filter (λ r. same_id (log_id r) i) r all (sym (tells r) ∙ named) h,
-)
-  where
-    tells : (r : LogRow) → is_named (W w ∷ []) r ≡ same_id (log_id r) i
-    tells r = write_alone (same_id (log_id r) (id_of w)) (not (is_tentative r)) ∙ ap (same_id (log_id r)) (sym is)
+write_those w i all is =
+    those_same (λ r. same_id (log_id r) i) (is_named (W w ∷ [])) all (filter (λ r. same_id (log_id r) i) all)
+    (λ r. sym (write_alone (same_id (log_id r) (id_of w)) (not (is_tentative r)) ∙ ap (same_id (log_id r)) (sym is)))
+    (those_picked (λ r. same_id (log_id r) i) all)
 
 -- the rows of a commit
 pub commit_those : (seq : ℕ) (id : Id) (all rows : List LogRow) → AreBetween log_key (number_end 0 seq) (number_end 2 seq) all rows → AreThose (is_named (C seq id ∷ [])) all (rows ++ filter (λ r. same_id (log_id r) id) all)
-commit_those seq id all rows found = (own, each)
-  where
-    tells : (r : LogRow) → is_named (C seq id ∷ []) r ≡ (is_between (number_end 0 seq) (number_end 2 seq) (log_key r) || same_id (log_id r) id)
-    tells r = commit_alone (same_id (log_id r) id) (not (is_tentative r)) (seq == r.seq) ∙ ap (λ b. b || same_id (log_id r) id) (sym (number_between seq r))
-
-    own : (r : LogRow) → Has r (rows ++ filter (λ r. same_id (log_id r) id) all) → Has r all × (is_named (C seq id ∷ []) r ≡ true)
-    own r h = go (has_split r rows (filter (λ r. same_id (log_id r) id) all) h)
-      where
-        go : Has r rows ⊎ Has r (filter (λ r. same_id (log_id r) id) all) → Has r all × (is_named (C seq id ∷ []) r ≡ true)
-        go (inl g) = let (there, inside) = found.own r g in (there, tells r ∙ or_left (is_between (number_end 0 seq) (number_end 2 seq) (log_key r)) (same_id (log_id r) id) inside)
-        go (inr g) = let (there, same) = filter_has (λ r. same_id (log_id r) id) r all g in (there, tells r ∙ or_right (is_between (number_end 0 seq) (number_end 2 seq) (log_key r)) (same_id (log_id r) id) same)
-
-    each : (r : LogRow) → Has r all → is_named (C seq id ∷ []) r ≡ true → Has r (rows ++ filter (λ r. same_id (log_id r) id) all)
-    each r h named = go (or_cases (is_between (number_end 0 seq) (number_end 2 seq) (log_key r)) (same_id (log_id r) id) (sym (tells r) ∙ named))
-      where
-        go : (is_between (number_end 0 seq) (number_end 2 seq) (log_key r) ≡ true) ⊎ (same_id (log_id r) id ≡ true) → Has r (rows ++ filter (λ r. same_id (log_id r) id) all)
-        go (inl inside) = has_left r rows (filter (λ r. same_id (log_id r) id) all) (found.each r h inside)
-        go (inr same) = has_right r rows (filter (λ r. same_id (log_id r) id) all) (has_filter (λ r. same_id (log_id r) id) r all same h)
+commit_those seq id all rows found =
+    those_same (λ r. is_between (number_end 0 seq) (number_end 2 seq) (log_key r) || same_id (log_id r) id) (is_named (C seq id ∷ [])) all (rows ++ filter (λ r. same_id (log_id r) id) all)
+    (λ r. sym (commit_alone (same_id (log_id r) id) (not (is_tentative r)) (seq == r.seq) ∙ ap (λ b. b || same_id (log_id r) id) (sym (number_between seq r))))
+    (those_both (λ r. is_between (number_end 0 seq) (number_end 2 seq) (log_key r)) (λ r. same_id (log_id r) id) all rows (filter (λ r. same_id (log_id r) id) all)
+    (those_between log_key (number_end 0 seq) (number_end 2 seq) all rows found) (those_picked (λ r. same_id (log_id r) id) all))
 
 -- ---- all items
 

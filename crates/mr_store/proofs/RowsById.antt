@@ -1,5 +1,5 @@
--- Rows that stand under the cells of their ids: what look-ups find among them, and what they are with a row put or without one.
-use Rattle.std.proofs.Common.{◌≡◌, refl, sym, ap, ◌∙◌, subst, ℕ, Bool, true, false, cond, not, ◌&&◌, ◌||◌, ◌==◌, nat_lt, List, [], ◌∷◌, ◌++◌, map, inl, inr, Some, None, Result, Ok, Err}
+-- Rows that stand under their ids: what look-ups find among them, and what they are with a row put or without one.
+use Rattle.std.proofs.Common.{◌≡◌, refl, sym, ap, ◌∙◌, subst, Bool, true, false, cond, not, ◌&&◌, ◌||◌, ◌==◌, nat_lt, List, [], ◌∷◌, ◌++◌, map, inl, inr, Some, None, Result, Ok, Err}
 use Rattle.std.specs.Prelude.{OnErr}
 use Rattle.std.specs.BTreeMap.{insert_entry, is_at}
 use Rattle.std.specs.List.{AllByRecursion, filter, find, list_any}
@@ -20,14 +20,14 @@ use Rattle.mr_replay.proofs.IdKeys.{exact_ids, ids_total, at_is, same_id_equival
 use Rattle.mr_tables.specs.Change.{id_before, put, rows_without}
 use Rattle.mr_tables.specs.TableOrders.{InOrder, id_order}
 use Rattle.mr_tables.proofs.Putting.{put_in_order}
-use Rattle.mr_store.specs.Keyed.{cells_cmp, cells_of_id, IsKeyed, if_passes}
+use Rattle.mr_store.specs.Keyed.{IsKeyed, if_passes}
 
 -- it holds whatever the result
 pub on_err : {X E P : Type 0} (r : Result X E) → P → OnErr r P
 on_err (Ok x) p = tt
 on_err (Err e) p = p
 
--- ---- the order of cells
+-- ---- the order of ids
 
 less : (b e : Bool) → is_lt (cond b Less (cond e Equal Greater)) ≡ b
 less true e = refl
@@ -133,57 +133,57 @@ module _ {R : Type 0} (id : R → Id) where
 
 module _ {R : Type 0} (id : R → Id) where
   abbrev Entries : Type 0
-  Entries = List ((ℕ × ℕ) × R)
+  Entries = List (Id × R)
 
   abbrev Keyed : Entries → Type 0
-  Keyed es = AllByRecursion (λ e. e.0 ≡ cells_of_id (id e.1)) es
+  Keyed es = AllByRecursion (λ e. e.0 ≡ (id e.1)) es
 
-  at_row : (i : Id) (e : (ℕ × ℕ) × R) → e.0 ≡ cells_of_id (id e.1) → is_at (cells_cmp (cells_of_id i)) e.0 ≡ same_id (id e.1) i
-  at_row i e is = ap (is_at (cells_cmp (cells_of_id i))) is ∙ (λ t. at_is t i (id e.1)) ∙ same_id_equivalence.symm i (id e.1)
+  at_row : (i : Id) (e : Id × R) → e.0 ≡ (id e.1) → is_at (id_cmp i) e.0 ≡ same_id (id e.1) i
+  at_row i e is = ap (is_at (id_cmp i)) is ∙ (λ t. at_is t i (id e.1)) ∙ same_id_equivalence.symm i (id e.1)
 
-  found_keyed : (es : Entries) (i : Id) → Keyed es → lookup (is_at (cells_cmp (cells_of_id i))) es ≡ find (λ r. same_id (id r) i) (values_of es)
+  found_keyed : (es : Entries) (i : Id) → Keyed es → lookup (is_at (id_cmp i)) es ≡ find (λ r. same_id (id r) i) (values_of es)
   found_keyed [] i k = refl
   found_keyed (e ∷ es) i k =
-      ap (λ b. cond b (Some e.1) (lookup (is_at (cells_cmp (cells_of_id i))) es)) (at_row i e k.0)
+      ap (λ b. cond b (Some e.1) (lookup (is_at (id_cmp i)) es)) (at_row i e k.0)
       ∙ ap (λ o. cond (same_id (id e.1) i) (Some e.1) o) (found_keyed es i k.1)
 
   -- a look-up finds the row with the id
-  pub found : (es : Entries) (i : Id) → IsKeyed id es → lookup (is_at (cells_cmp (cells_of_id i))) es ≡ find (λ r. same_id (id r) i) (values_of es)
+  pub found : (es : Entries) (i : Id) → IsKeyed id es → lookup (is_at (id_cmp i)) es ≡ find (λ r. same_id (id r) i) (values_of es)
   found es i k = found_keyed es i k.keys
 
-  pub any_keyed : (es : Entries) (i : Id) → IsKeyed id es → is_some (lookup (is_at (cells_cmp (cells_of_id i))) es) ≡ list_any (λ r. same_id (id r) i) (values_of es)
+  pub any_keyed : (es : Entries) (i : Id) → IsKeyed id es → is_some (lookup (is_at (id_cmp i)) es) ≡ list_any (λ r. same_id (id r) i) (values_of es)
   any_keyed es i k = ap is_some (found es i k) ∙ sym (any_found id (λ r. same_id (id r) i) (values_of es))
 
   -- ---- with a row put
 
-  put_keyed : (es : Entries) (x : R) → Keyed es → values_of (insert_entry cells_cmp es (cells_of_id (id x)) x) ≡ put id_before id x (values_of es)
+  put_keyed : (es : Entries) (x : R) → Keyed es → values_of (insert_entry id_cmp es (id x) x) ≡ put id_before id x (values_of es)
   put_keyed [] x k = refl
   put_keyed (e ∷ es) x k =
-      elim (cells_cmp (cells_of_id (id x)) e.0) as (λ o. cells_cmp (cells_of_id (id x)) e.0 ≡ o → values_of (match_ordering o ((cells_of_id (id x), x) ∷ e ∷ es) ((e.0, x) ∷ es) (e ∷ insert_entry cells_cmp es (cells_of_id (id x)) x)) ≡ put id_before id x (e.1 ∷ values_of es)) [
+      elim (id_cmp (id x) e.0) as (λ o. id_cmp (id x) e.0 ≡ o → values_of (match_ordering o (((id x), x) ∷ e ∷ es) ((e.0, x) ∷ es) (e ∷ insert_entry id_cmp es (id x) x)) ≡ put id_before id x (e.1 ∷ values_of es)) [
         | Less ↦ λ p. sym (both (before_less (id x) (id e.1) (own ∙ p)) refl)
         | Equal ↦ λ p. sym (both (not_before (id x) (id e.1) (ap is_lt (own ∙ p))) (not_behind (id x) (id e.1) (own ∙ p)))
         | Greater ↦ λ p. ap (λ ys. e.1 ∷ ys) (put_keyed es x k.1) ∙ sym (both (not_before (id x) (id e.1) (ap is_lt (own ∙ p))) (behind_less (id x) (id e.1) (own ∙ p)))
       ] refl
     where
-      own : id_cmp (id x) (id e.1) ≡ cells_cmp (cells_of_id (id x)) e.0
-      own = ap (cells_cmp (cells_of_id (id x))) (sym k.0)
+      own : id_cmp (id x) (id e.1) ≡ id_cmp (id x) e.0
+      own = ap (id_cmp (id x)) (sym k.0)
 
       both : {b c : Bool} → id_before (id x) (id e.1) ≡ b → id_before (id e.1) (id x) ≡ c → put id_before id x (e.1 ∷ values_of es) ≡ cond b (x ∷ e.1 ∷ values_of es) (cond c (e.1 ∷ put id_before id x (values_of es)) (x ∷ values_of es))
       both p q = λ t. cond (p t) (x ∷ e.1 ∷ values_of es) (cond (q t) (e.1 ∷ put id_before id x (values_of es)) (x ∷ values_of es))
 
-  keys_put : (es : Entries) (x : R) → Keyed es → Keyed (insert_entry cells_cmp es (cells_of_id (id x)) x)
+  keys_put : (es : Entries) (x : R) → Keyed es → Keyed (insert_entry id_cmp es (id x) x)
   keys_put [] x k = (refl, tt)
   keys_put (e ∷ es) x k =
-      elim (cells_cmp (cells_of_id (id x)) e.0) as (λ o. cells_cmp (cells_of_id (id x)) e.0 ≡ o → Keyed (match_ordering o ((cells_of_id (id x), x) ∷ e ∷ es) ((e.0, x) ∷ es) (e ∷ insert_entry cells_cmp es (cells_of_id (id x)) x))) [
+      elim (id_cmp (id x) e.0) as (λ o. id_cmp (id x) e.0 ≡ o → Keyed (match_ordering o (((id x), x) ∷ e ∷ es) ((e.0, x) ∷ es) (e ∷ insert_entry id_cmp es (id x) x))) [
         | Less ↦ λ p. (refl, k)
-        | Equal ↦ λ p. (k.0 ∙ ap cells_of_id (sym (exact_ids (id x) (id e.1) (ap (cells_cmp (cells_of_id (id x))) (sym k.0) ∙ p))), k.1)
+        | Equal ↦ λ p. (k.0 ∙ sym (exact_ids (id x) (id e.1) (ap (id_cmp (id x)) (sym k.0) ∙ p)), k.1)
         | Greater ↦ λ p. (k.0, keys_put es x k.1)
       ] refl
 
-  pub rows_put : (es : Entries) (x : R) → IsKeyed id es → values_of (insert_entry cells_cmp es (cells_of_id (id x)) x) ≡ put id_before id x (values_of es)
+  pub rows_put : (es : Entries) (x : R) → IsKeyed id es → values_of (insert_entry id_cmp es (id x) x) ≡ put id_before id x (values_of es)
   rows_put es x k = put_keyed es x k.keys
 
-  pub IsKeyed-put : (es : Entries) (x : R) → IsKeyed id es → IsKeyed id (insert_entry cells_cmp es (cells_of_id (id x)) x)
+  pub IsKeyed-put : (es : Entries) (x : R) → IsKeyed id es → IsKeyed id (insert_entry id_cmp es (id x) x)
   IsKeyed-put es x k = record {
     keys = keys_put es x k.keys;
     order = subst (InOrder id_before id) (sym (rows_put es x k)) (put_in_order id_before id id_order x (values_of es) k.order);
@@ -191,26 +191,26 @@ module _ {R : Type 0} (id : R → Id) where
 
   -- ---- without the row of an id
 
-  taken_keyed : (es : Entries) (i : Id) → Keyed es → InOrder id_before id (values_of es) → values_of (remove_entry (is_at (cells_cmp (cells_of_id i))) es) ≡ rows_without id (i ∷ []) (values_of es)
+  taken_keyed : (es : Entries) (i : Id) → Keyed es → InOrder id_before id (values_of es) → values_of (remove_entry (is_at (id_cmp i)) es) ≡ rows_without id (i ∷ []) (values_of es)
   taken_keyed [] i k s = refl
   taken_keyed (e ∷ es) i k s =
-      ap (λ b. values_of (cond b es (e ∷ remove_entry (is_at (cells_cmp (cells_of_id i))) es))) (at_row i e k.0)
+      ap (λ b. values_of (cond b es (e ∷ remove_entry (is_at (id_cmp i)) es))) (at_row i e k.0)
       ∙ go (same_id (id e.1) i) refl (taken_keyed es i k.1 s.1)
     where
-      go : (b : Bool) → same_id (id e.1) i ≡ b → values_of (remove_entry (is_at (cells_cmp (cells_of_id i))) es) ≡ rows_without id (i ∷ []) (values_of es) → values_of (cond b es (e ∷ remove_entry (is_at (cells_cmp (cells_of_id i))) es)) ≡ cond (not (b || false)) (e.1 ∷ rows_without id (i ∷ []) (values_of es)) (rows_without id (i ∷ []) (values_of es))
+      go : (b : Bool) → same_id (id e.1) i ≡ b → values_of (remove_entry (is_at (id_cmp i)) es) ≡ rows_without id (i ∷ []) (values_of es) → values_of (cond b es (e ∷ remove_entry (is_at (id_cmp i)) es)) ≡ cond (not (b || false)) (e.1 ∷ rows_without id (i ∷ []) (values_of es)) (rows_without id (i ∷ []) (values_of es))
       go true is ih = sym (stay id i (values_of es) (apart id e.1 (values_of es) s i is))
       go false other ih = ap (λ ys. e.1 ∷ ys) ih
 
-  keys_taken : (es : Entries) (test : ℕ × ℕ → Bool) → Keyed es → Keyed (remove_entry test es)
+  keys_taken : (es : Entries) (test : Id → Bool) → Keyed es → Keyed (remove_entry test es)
   keys_taken [] test k = tt
   keys_taken (e ∷ es) test k = elim (test e.0) as (λ b. Keyed (cond b es (e ∷ remove_entry test es))) [ true ↦ k.1 | false ↦ (k.0, keys_taken es test k.1) ]
 
-  pub rows_taken : (es : Entries) (i : Id) → IsKeyed id es → values_of (remove_entry (is_at (cells_cmp (cells_of_id i))) es) ≡ rows_without id (i ∷ []) (values_of es)
+  pub rows_taken : (es : Entries) (i : Id) → IsKeyed id es → values_of (remove_entry (is_at (id_cmp i)) es) ≡ rows_without id (i ∷ []) (values_of es)
   rows_taken es i k = taken_keyed es i k.keys k.order
 
-  pub IsKeyed-taken : (es : Entries) (i : Id) → IsKeyed id es → IsKeyed id (remove_entry (is_at (cells_cmp (cells_of_id i))) es)
+  pub IsKeyed-taken : (es : Entries) (i : Id) → IsKeyed id es → IsKeyed id (remove_entry (is_at (id_cmp i)) es)
   IsKeyed-taken es i k = record {
-    keys = keys_taken es (is_at (cells_cmp (cells_of_id i))) k.keys;
+    keys = keys_taken es (is_at (id_cmp i)) k.keys;
     order = subst (InOrder id_before id) (sym (rows_taken es i k)) (sorted_filter (λ x y. id_before (id x) (id y) ≡ true) (λ r. not (is_among (id r) (i ∷ []))) (values_of es) k.order);
   }
 

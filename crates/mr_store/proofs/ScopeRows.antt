@@ -1,18 +1,19 @@
 -- Tables with the rows that a command needs have in its scope what all tables have.
 use Rattle.std.proofs.Common.{◌≡◌, ℕ, nat_lt, Bool, true, false, cond, not, ◌&&◌, ◌||◌, List, [], ◌∷◌, ◌++◌, map, flat_map, take, ◌⊎◌, inl, inr, Option, Some, IfSome, refl, sym, ap, subst, ◌∙◌}
-use Rattle.std.proofs.lemmas.Bool.{true≢false, and_parts, or_cases, or_left, or_right}
+use Rattle.std.proofs.lemmas.Bool.{true≢false, and_from, and_parts, or_cases, or_left, or_right}
 use Rattle.std.specs.List.{filter, list_any}
 use Rattle.std.specs.Str.{bytes_eq}
 use Rattle.mr_model.specs.Dropped.{Has}
 use Rattle.mr_model.specs.Exchange.{Item, W, C}
 use Rattle.mr_model.specs.Texts.{Text, within}
-use Rattle.mr_model.specs.Scopes.{Scope, Nothing, InRoom, OfTarget, NextCommits, UpTo, Above, OfItems, is_tentative, is_above, by_stamp, has_number, in_scope, is_in_tail, is_named, item_id, rooms_of_item, with_rows}
+use Rattle.mr_model.specs.Scopes.{Scope, Nothing, InRoom, OfTarget, NextCommits, UpTo, Above, OfItems, is_tentative, is_above, by_stamp, has_number, in_scope, is_in_tail, is_named, is_new_commit, item_id, rooms_of_item, with_rows}
 use Rattle.mr_model.specs.Tables.{LogRow, BookingRow, ErrorRow, CancelledRow, Tables}
 use Rattle.mr_model.specs.Queries.{booking_id, error_id, cancelled_id, log_id}
 use Rattle.mr_model.specs.Replica.{is_among}
 use Rattle.mr_model.specs.Writes.{Id, same_id}
+use Rattle.mr_part.specs.Touched.{writes_in}
 use Rattle.mr_part.specs.Parts.{goes_by_rooms, without_bookings}
-use Rattle.mr_store.specs.Needed.{is_log_needed, is_of_rooms}
+use Rattle.mr_store.specs.Needed.{is_late_row, is_log_needed, is_of_rooms}
 
 -- to pick twice is to pick once
 twice : {R : Type 0} (p : R → Bool) (rows : List R) → filter p (filter p rows) ≡ filter p rows
@@ -61,14 +62,28 @@ named_id a x [] h same = absurd h
 named_id a x (y ∷ items) (inl e) same = or_left (same_id a (item_id y)) (is_among a (map item_id items)) (subst (λ z. same_id a (item_id z) ≡ true) e same)
 named_id a x (y ∷ items) (inr h) same = or_right (same_id a (item_id y)) (is_among a (map item_id items)) (named_id a x items h same)
 
+-- where a batch touches a room, it has a new commit or writes in the room
+touched_by : (known : ℕ) (log : List LogRow) (room : Text) (items : List Item) → list_any (bytes_eq room) (flat_map (rooms_of_item known log) items) ≡ true → (list_any (is_new_commit known) items || list_any (writes_in room) items) ≡ true
+touched_by known log room [] h = h
+touched_by known log room (W w ∷ items) h = go (bytes_eq room w.room) h (touched_by known log room items)
+  where
+    go : (b : Bool) → (b || list_any (bytes_eq room) (flat_map (rooms_of_item known log) items)) ≡ true → (list_any (bytes_eq room) (flat_map (rooms_of_item known log) items) ≡ true → (list_any (is_new_commit known) items || list_any (writes_in room) items) ≡ true) → (list_any (is_new_commit known) items || (b || list_any (writes_in room) items)) ≡ true
+    go true h ih = or_right (list_any (is_new_commit known) items) true refl
+    go false h ih = ih h
+touched_by known log room (C seq id ∷ items) h = go (nat_lt known seq) h (touched_by known log room items)
+  where
+    go : (b : Bool) → list_any (bytes_eq room) (cond b (map (λ (row : LogRow). row.room) (filter (λ row. same_id (log_id row) id) log)) [] ++ flat_map (rooms_of_item known log) items) ≡ true → (list_any (bytes_eq room) (flat_map (rooms_of_item known log) items) ≡ true → (list_any (is_new_commit known) items || list_any (writes_in room) items) ≡ true) → ((b || list_any (is_new_commit known) items) || list_any (writes_in room) items) ≡ true
+    go true h ih = refl
+    go false h ih = ih h
+
 module _ (known : ℕ) (items : List Item) (log : List LogRow) where
   abbrev pub needed : LogRow → Bool
-  needed row = is_in_tail known items row || is_named items row
+  needed row = is_late_row known items row || is_named items row
 
   kept : (x : Item) → Has x items → filter (λ row. same_id (log_id row) (item_id x)) (filter needed log) ≡ filter (λ row. same_id (log_id row) (item_id x)) log
   kept x h =
       narrower (λ row. same_id (log_id row) (item_id x)) needed
-      (λ row same. or_right (is_in_tail known items row) (is_named items row) (or_left (is_among (log_id row) (map item_id items)) (not (is_tentative row) && list_any (has_number row.seq) items) (named_id (log_id row) x items h same)))
+      (λ row same. or_right (is_late_row known items row) (is_named items row) (or_left (is_among (log_id row) (map item_id items)) (not (is_tentative row) && list_any (has_number row.seq) items) (named_id (log_id row) x items h same)))
       log
 
   rooms_of : (left : List Item) → ((x : Item) → Has x left → Has x items) → flat_map (rooms_of_item known (filter needed log)) left ≡ flat_map (rooms_of_item known log) left
@@ -86,8 +101,11 @@ module _ (known : ℕ) (items : List Item) (log : List LogRow) where
       ∙ narrower (in_batch (flat_map (rooms_of_item known log) items)) needed (λ row h. up row (or_cases (is_named items row) (is_in_tail known items row && list_any (bytes_eq row.room) (flat_map (rooms_of_item known log) items)) h)) log
     where
       up : (row : LogRow) → (is_named items row ≡ true) ⊎ ((is_in_tail known items row && list_any (bytes_eq row.room) (flat_map (rooms_of_item known log) items)) ≡ true) → needed row ≡ true
-      up row (inl named) = or_right (is_in_tail known items row) (is_named items row) named
-      up row (inr late) = or_left (is_in_tail known items row) (is_named items row) (and_parts (is_in_tail known items row) (list_any (bytes_eq row.room) (flat_map (rooms_of_item known log) items)) late).0
+      up row (inl named) = or_right (is_late_row known items row) (is_named items row) named
+      up row (inr late) =
+          let (behind, touched) = and_parts (is_in_tail known items row) (list_any (bytes_eq row.room) (flat_map (rooms_of_item known log) items)) late in
+          or_left (is_late_row known items row) (is_named items row)
+          (and_from (is_in_tail known items row) (list_any (is_new_commit known) items || list_any (writes_in row.room) items) behind (touched_by known log row.room items touched))
 
 pub rooms_scope : (s : Scope) (t : Tables) → is_of_rooms s ≡ true → without_bookings (in_scope s (with_rows t (filter (is_log_needed t.meta.commits s) t.log) [] [] [])) ≡ without_bookings (in_scope s t)
 rooms_scope Nothing t is = refl

@@ -27,8 +27,6 @@ pub struct Cached<K: Keeper> {
 }
 
 impl<K: Keeper> Model for Cached<K> {
-    ghost use Rattle.mr_store.specs.Cached.{IsMemoryOf};
-
     ghost Value = { K };
 
     ghost coded = { K.code };
@@ -120,8 +118,6 @@ fn is_failure<T>(answer: &Result<T, Fault>) -> bool
 }
 
 impl<K: Keeper> Keeper for Cached<K> {
-    ghost use Rattle.mr_store.specs.Cached.{NeverFails};
-
     ghost tables = { λ c. K.tables c };
 
     ghost failures = { λ c. K.failures c };

@@ -29,6 +29,5 @@ fn has_place_of(tables: &Tables, id: WriteId) -> bool
 fn has<R: IdRow>(rows: &[R], id: WriteId) -> bool
     ensures { result ≡ list_any (λ r. same_id (R.id r) id) rows.now }
 {
-    rows.iter()
-        .any(|row| row.cells_of_id() == (id.server, id.n))
+    rows.iter().any(|row| row.write_id() == id)
 }

@@ -1,27 +1,30 @@
-ghost use Rattle.std.specs.Prelude.{◌≡◌, ◌&&◌, ◌||◌, ◌∷◌, [], Bool, bytes_eq, false, filter, find, map, IsTrue, IfOk, OnOk, OnErr};
+ghost use Rattle.std.specs.Prelude.{◌≡◌, ◌&&◌, ◌∷◌, [], bytes_eq, false, filter, find, map, IsTrue, IfOk, OnOk, OnErr};
 ghost use Rattle.std.specs.List.{list_any};
 ghost use Rattle.std.specs.List.Sorted.{IsPermutation};
+ghost use Rattle.std.specs.Map.{values_of};
 ghost use Rattle.std.specs.Option.{option_copied};
-ghost use Rattle.std.specs.Ordering.{is_eq, is_gt};
+ghost use Rattle.std.specs.Ordering.{is_gt};
 ghost use Rattle.mr_model.specs.Queries.{log_id};
-ghost use Rattle.mr_model.specs.Scopes.{is_named};
-ghost use Rattle.mr_model.specs.Tables.{LogRow as RowOfLog};
-ghost use Rattle.mr_model.specs.Writes.{Id, same_id};
+ghost use Rattle.mr_model.specs.Scopes.{OfItems, is_named};
+ghost use Rattle.mr_model.specs.Writes.{same_id};
 ghost use Rattle.mr_base.specs.Batches.{item_of};
 ghost use Rattle.mr_tables.specs.Change.{id_before, put, put_all, rows_without};
 ghost use Rattle.mr_tables.specs.TableOrders.{InOrder};
 ghost use Rattle.mr_replay.specs.Holds.{AreDistinct};
+ghost use Rattle.mr_replay.specs.Seen.{has_room};
 ghost use Rattle.mr_part.specs.ScopeOf.{scope_of};
 ghost use Rattle.mr_store.specs.declared.row_key.RowKey.{RowKey as Key};
 ghost use Rattle.mr_store.specs.Calendar.{AreListed};
-ghost use Rattle.mr_store.specs.Keyed.{cells_of_id, if_passes};
-ghost use Rattle.mr_store.specs.Needed.{is_log_needed};
+ghost use Rattle.mr_store.specs.Needed.{is_late_in, is_late_row, is_log_needed};
 ghost use Rattle.mr_store.specs.Picked.{is_day_asked};
-ghost use Rattle.mr_store.specs.RowKeys.{has, key_cmp, room_key, row_at, AreBetween, AreThose, IsIndexed};
+ghost use Rattle.mr_store.specs.RowKeys.{has, index_code, is_between, key_cmp, room_key, row_at, AreBetween, AreThose, IndexView, IsIndexed, IsTable};
 
-use crate::row_key::{KeyedRow, RowKey, end_key, ends_for, number_end};
-use mr_base::{Day, Item, RoomName, ServerId, WriteId};
+use crate::row_key::{KeyedRow, RowKey, end_key, log_end, number_end, tail_end};
+use mr_base::{Day, Item, RoomName, WriteId};
 use mr_part::Scope;
+use mr_part::room_sets::RoomSet;
+use mr_part::tail::{Tail, tail_of};
+use mr_part::touched::Touched;
 use mr_tables::{BookingRow, IdRow, LogRow};
 use std::alloc::{AllocError, Global};
 use std::collections::{BTreeMap, BTreeSet};
@@ -32,15 +35,12 @@ use std::marker::Model;
 #[derive(Drop)]
 pub(crate) struct Indexed<R: KeyedRow> {
     alloc: Global,
-    rows: BTreeMap<(ServerId, u32), R>,
+    rows: BTreeMap<WriteId, R>,
     /// The second key of each of them.
     keys: BTreeSet<RowKey>,
 }
 
 impl<R: KeyedRow> Model for Indexed<R> {
-    ghost use Rattle.std.specs.Map.{values_of};
-    ghost use Rattle.mr_store.specs.RowKeys.{index_code, IndexView, IsTable};
-
     ghost Value = { IndexView R };
 
     ghost coded = { index_code R.code };
@@ -67,9 +67,10 @@ impl<R: KeyedRow> Indexed<R> {
         requires { InOrder R.before R.key rows.items }
         ensures { IfOk result (λ table. table.rows ≡ rows.items) }
     {
-        let mut table = Indexed::new(alloc);
-        table.put_each(rows)?;
-        Ok(table)
+        let keys = rows.iter().map(|row| row.second_key()).collect(alloc)?;
+        let pairs = rows.into_iter().map(|row| (row.write_id(), row));
+        let rows = pairs.collect(alloc)?;
+        Ok(Indexed { alloc, rows, keys })
     }
 
     /// Puts these rows, each in the place of the one of its write. If memory refuses, some of them are put.
@@ -87,22 +88,14 @@ impl<R: KeyedRow> Indexed<R> {
         ensures row { option_copied result ≡ find (λ r. same_id (R.id r) id) self.now.rows }
         ensures order { InOrder id_before R.id self.now.rows }
     {
-        self.at_cells(cells_of(id))
-    }
-
-    /// The row of the write with these cells.
-    fn at_cells(&self, cells: (ServerId, u32)) -> Option<&R>
-        ensures row { (id : Id) → cells ≡ cells_of_id id → option_copied result ≡ find (λ r. same_id (R.id r) id) self.now.rows }
-        ensures order { InOrder id_before R.id self.now.rows }
-    {
-        self.rows.get(&cells)
+        self.rows.get(&id)
     }
 
     /// Whether there is a row of this write.
     pub(crate) fn has(&self, id: WriteId) -> bool
         ensures { result ≡ list_any (λ r. same_id (R.id r) id) self.now.rows }
     {
-        self.rows.contains_key(&cells_of(id))
+        self.rows.contains_key(&id)
     }
 
     /// Says to proofs that no id stands twice. It does nothing.
@@ -123,15 +116,15 @@ impl<R: KeyedRow> Indexed<R> {
         ensures index { IsIndexed R.id R.second_key self.old.rows self.old.keys }
     {
         self.keys.insert(row.second_key())?;
-        Ok(self.rows.insert(row.cells_of_id(), row)?)
+        Ok(self.rows.insert(row.write_id(), row)?)
     }
 
-    /// Takes the row of the write with these cells away, if there is one. Its key stays.
-    pub(crate) fn take(&mut self, cells: (ServerId, u32)) -> Option<R>
-        ensures rows { (id : Id) → cells ≡ cells_of_id id → self.new.rows ≡ rows_without R.id (id ∷ []) self.old.rows }
+    /// Takes the row of this write away, if there is one. Its key stays.
+    pub(crate) fn take(&mut self, id: WriteId) -> Option<R>
+        ensures rows { self.new.rows ≡ rows_without R.id (id ∷ []) self.old.rows }
         ensures keys { self.new.keys ≡ self.old.keys }
     {
-        self.rows.remove(&cells)
+        self.rows.remove(&id)
     }
 
     /// Takes the key of this row out, unless it is the key of a row that is there.
@@ -205,27 +198,41 @@ impl<R: KeyedRow> Indexed<R> {
         Ok(rows)
     }
 
+    /// Copies of the rows with keys from the first to the last, in the order of their ids. If at most so many others are there, and these
+    /// are no more than half of all rows, each row is looked at, since they lie in that order; else those between the two are sorted.
+    fn ranged(&self, first: &RowKey, last: &RowKey, others: u64) -> Result<Vec<R>, AllocError>
+        requires { is_gt (key_cmp first.now last.now) ≡ false }
+        ensures { IfOk result (λ rows. rows.items ≡ filter (λ r. is_between first.now last.now (R.second_key r)) self.now.rows) }
+    {
+        if others <= self.rows.len() as u64 / 2 {
+            return self.passed(first, last);
+        }
+        let mut rows = self.between(first, last)?;
+        rows.sort_by_cached_key(|row| row.write_id())?;
+        Ok(rows)
+    }
+
+    /// The same, where all rows are looked at.
+    fn passed(&self, first: &RowKey, last: &RowKey) -> Result<Vec<R>, AllocError>
+        ensures { IfOk result (λ rows. rows.items ≡ filter (λ r. is_between first.now last.now (R.second_key r)) self.now.rows) }
+    {
+        let mut rows = Vec::new(self.alloc);
+        for row in self.rows.values() {
+            if row.second_key().is_between(first, last) {
+                rows.push(row.copied(self.alloc)?)?;
+            }
+        }
+        Ok(rows)
+    }
+
     /// The row with this key.
     fn row_at(&self, key: &RowKey) -> Option<&R>
         ensures { option_copied result ≡ row_at R.id R.second_key self.now.rows key.now }
     {
-        if_keyed(self.at_cells((key.server, key.n)), key)
-    }
-}
-
-fn cells_of(id: WriteId) -> (ServerId, u32)
-    ensures { result ≡ cells_of_id id }
-{
-    (id.server, id.n)
-}
-
-/// The row, if it has this key.
-fn if_keyed<'a, R: KeyedRow>(row: Option<&'a R>, key: &RowKey) -> Option<&'a R>
-    ensures { option_copied result ≡ if_passes (λ r. is_eq (key_cmp (R.second_key r) key.now)) (option_copied row.entry) }
-{
-    match row {
-        Some(row) if row.second_key().cmp(key).is_eq() => Some(row),
-        _ => None,
+        match self.get(key.id) {
+            Some(row) if row.second_key().cmp(key).is_eq() => Some(row),
+            _ => None,
+        }
     }
 }
 
@@ -262,26 +269,57 @@ impl Indexed<LogRow> {
     pub(crate) fn needed(&self, known: u64, scope: &Scope<'_>) -> Result<Vec<LogRow>, AllocError>
         ensures { IfOk result (λ rows. rows.items ≡ filter (is_log_needed known (scope_of scope.now)) self.now.rows) }
     {
-        let (first, last) = ends_for(known, scope);
-        let mut rows = self.between(&first, &last)?;
-        rows.sort_by_cached_key(|row| row.cells_of_id())?;
         match *scope {
-            Scope::Items(items) => self.with_named(rows, items),
-            _ => Ok(rows),
+            Scope::Nothing | Scope::InRoom(_) | Scope::OfTarget(_) => Ok(Vec::new(self.alloc)),
+            Scope::NextCommits(_) => self.ranged(&log_end(2), &log_end(4), known),
+            Scope::UpTo(number) => self.ranged(&log_end(0), &number_end(2, number), u64::MAX),
+            Scope::Above(commits) => self.ranged(&number_end(2, commits), &log_end(4), commits),
+            Scope::Items(items) => self.of_batch(known, items),
         }
     }
 
-    /// These rows and copies of those that the items name, in the order of their ids.
-    fn with_named(&self, rows: Vec<LogRow>, items: &[Item]) -> Result<Vec<LogRow>, AllocError>
-        requires { InOrder id_before log_id rows.items }
-        ensures { (p : RowOfLog → Bool) → rows.items ≡ filter p self.now.rows
-            → IfOk result (λ all. all.items ≡ filter (λ r. p r || is_named (map item_of items.now) r) self.now.rows) }
+    /// Copies of the rows that a received batch of these items needs, in the order of their ids.
+    fn of_batch(&self, known: u64, items: &[Item]) -> Result<Vec<LogRow>, AllocError>
+        ensures { IfOk result (λ rows. rows.items ≡ filter (is_log_needed known (OfItems (map item_of items.now))) self.now.rows) }
     {
-        let mut all = Indexed::of(self.alloc, rows)?;
+        let mut all = self.late(known, items)?;
         for item in items {
             all.put_each(self.named_by(item)?)?;
         }
         all.copies()
+    }
+
+    /// Copies of the rows that such a batch may move: the tentative ones in its tail, all of them if it has a new commit, and else those
+    /// of the rooms of its writes.
+    fn late(&self, known: u64, items: &[Item]) -> Result<Indexed<LogRow>, AllocError>
+        ensures { IfOk result (λ late. late.rows ≡ filter (is_late_row known (map item_of items.now)) self.now.rows) }
+    {
+        let Ok(touched) = Touched::by(self.alloc, items, known) else {
+            return Err(AllocError);
+        };
+        if touched.committed.is_empty() {
+            let mut late = Indexed::new(self.alloc);
+            late.put_each(self.late_in(&touched.rooms, &tail_of(items, known))?)?;
+            return Ok(late);
+        }
+        Indexed::of(self.alloc, self.ranged(&log_end(2), &log_end(4), known)?)
+    }
+
+    /// Copies of the tentative rows of these rooms that are in the tail.
+    fn late_in(&self, rooms: &RoomSet, tail: &Tail) -> Result<Vec<LogRow>, AllocError>
+        ensures those { IfOk result (λ rows. AreThose (is_late_in (has_room rooms.now) tail.now) self.now.rows rows.items) }
+        ensures order { InOrder id_before log_id self.now.rows }
+    {
+        let mut rows = Vec::new(self.alloc);
+        for room in rooms {
+            let first = tail_end(room, tail);
+            let last = tail_end(room, &Tail::Nothing);
+            let mut found = self.between(&first, &last)?;
+            // Each of them is of the room; the test is for the prover.
+            found.retain(|row| row.room == *room);
+            rows.append(&mut found)?;
+        }
+        Ok(rows)
     }
 
     /// Copies of the rows that an item names.

@@ -8,7 +8,7 @@ ghost use Rattle.mr_store.specs.RowKeys.{has, IsNoted};
 
 use crate::indexed::Indexed;
 use crate::row_key::KeyedRow;
-use mr_base::{ServerId, WriteId};
+use mr_base::WriteId;
 use std::alloc::{AllocError, Global};
 use std::collections::BTreeSet;
 
@@ -16,10 +16,10 @@ use std::collections::BTreeSet;
 #[derive(Drop)]
 pub(crate) struct Journal<R> {
     alloc: Global,
-    /// For each row that was put the cells of its id, and the row in whose place it came. The latest is the last.
-    pub puts: Vec<((ServerId, u32), Option<R>)>,
-    /// The cells of the ids whose rows are still to go: none is that of a row that was put.
-    pub going: BTreeSet<(ServerId, u32)>,
+    /// For each row that was put its id, and the row in whose place it came. The latest is the last.
+    pub puts: Vec<(WriteId, Option<R>)>,
+    /// The ids whose rows are still to go: none is that of a row that was put.
+    pub going: BTreeSet<WriteId>,
 }
 
 impl<R: KeyedRow> Journal<R> {
@@ -45,22 +45,12 @@ impl<R: KeyedRow> Journal<R> {
         ensures steps { AreSteps R.id (IsNoted R.second_key table.new.keys) (reverse self.new.puts.items) table.old.rows table.new.rows }
         ensures made { OnOk result (rows_but R.id (is_going self.new.going) table.new.rows ≡ put_all id_before R.id news.now (rows_without R.id gone.now table.old.rows)) }
     {
-        note_all(&mut self.going, gone)?;
+        self.going.extend(gone)?;
         for row in news {
             put_one(table, row.copied(self.alloc)?, self)?;
         }
         Ok(())
     }
-}
-
-fn note_all(going: &mut BTreeSet<(ServerId, u32)>, gone: &[WriteId]) -> Result<(), AllocError>
-    requires { going.old.keys ≡ [] }
-    ensures { OnOk result ((i : Id) → is_going going.new i ≡ is_among i gone.now) }
-{
-    for id in gone {
-        going.insert((id.server, id.n))?;
-    }
-    Ok(())
 }
 
 fn put_one<R: KeyedRow>(
@@ -72,11 +62,11 @@ fn put_one<R: KeyedRow>(
         → AreSteps R.id (IsNoted R.second_key table.new.keys) (reverse journal.new.puts.items) before table.new.rows }
     ensures made { OnOk result (rows_but R.id (is_going journal.new.going) table.new.rows ≡ put id_before R.id row (rows_but R.id (is_going journal.old.going) table.old.rows)) }
 {
-    let cells = row.cells_of_id();
+    let id = row.write_id();
     journal.puts.reserve(1)?;
     let old = table.put(row)?;
-    journal.puts.push_reserved((cells, old));
-    journal.going.remove(&cells);
+    journal.puts.push_reserved((id, old));
+    journal.going.remove(&id);
     Ok(())
 }
 
@@ -90,17 +80,17 @@ pub(crate) fn take_back<R: KeyedRow>(table: &mut Indexed<R>, journal: Journal<R>
     }
 }
 
-fn go_back<R: KeyedRow>(table: &mut Indexed<R>, puts: Vec<((ServerId, u32), Option<R>)>)
+fn go_back<R: KeyedRow>(table: &mut Indexed<R>, puts: Vec<(WriteId, Option<R>)>)
     ensures { (before : List R) → AreSteps R.id (IsNoted R.second_key table.old.keys) (reverse puts.items) before table.old.rows → table.new.rows ≡ before }
 {
     let mut left = puts;
-    while let Some((cells, old)) = left.pop() {
-        step_back(table, cells, old);
+    while let Some((id, old)) = left.pop() {
+        step_back(table, id, old);
     }
 }
 
-fn step_back<R: KeyedRow>(table: &mut Indexed<R>, cells: (ServerId, u32), old: Option<R>)
-    ensures rows { (before : List R) → IsStep R.id (IsNoted R.second_key table.old.keys) (cells, old) before table.old.rows → table.new.rows ≡ before }
+fn step_back<R: KeyedRow>(table: &mut Indexed<R>, id: WriteId, old: Option<R>)
+    ensures rows { (before : List R) → IsStep R.id (IsNoted R.second_key table.old.keys) (id, old) before table.old.rows → table.new.rows ≡ before }
     ensures keys { (k : Key) → IsTrue (has table.old.keys k) → IsTrue (has table.new.keys k) }
 {
     match old {
@@ -109,7 +99,7 @@ fn step_back<R: KeyedRow>(table: &mut Indexed<R>, cells: (ServerId, u32), old: O
             let _ = table.put(row);
         }
         None => {
-            table.take(cells);
+            table.take(id);
         }
     }
 }
@@ -123,17 +113,17 @@ pub(crate) fn settle<R: KeyedRow>(table: &mut Indexed<R>, journal: Journal<R>)
     forget_old(table, puts);
 }
 
-fn take_going<R: KeyedRow>(table: &mut Indexed<R>, going: BTreeSet<(ServerId, u32)>)
+fn take_going<R: KeyedRow>(table: &mut Indexed<R>, going: BTreeSet<WriteId>)
     ensures { table.new.rows ≡ rows_but R.id (is_going going) table.old.rows }
 {
     let mut left = going;
-    while let Some(cells) = left.pop_first() {
-        let row = table.take(cells);
+    while let Some(id) = left.pop_first() {
+        let row = table.take(id);
         forget(table, row);
     }
 }
 
-fn forget_old<R: KeyedRow>(table: &mut Indexed<R>, puts: Vec<((ServerId, u32), Option<R>)>)
+fn forget_old<R: KeyedRow>(table: &mut Indexed<R>, puts: Vec<(WriteId, Option<R>)>)
     ensures { table.new.rows ≡ table.old.rows }
 {
     let mut left = puts;

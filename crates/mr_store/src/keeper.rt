@@ -8,7 +8,8 @@ ghost use Rattle.mr_part.specs.NextId.{id_given};
 ghost use Rattle.mr_part.specs.Parts.{IsPartOf};
 ghost use Rattle.mr_part.specs.ScopeOf.{scope_of};
 ghost use Rattle.mr_store.specs.Answers.{IsAnswerTo, IsNamedAs};
-ghost use Rattle.mr_store.specs.KeeperCalls.{failures_for, IsAtomic, IsQuiet};
+ghost use Rattle.mr_store.specs.KeeperCalls.{failures_for, fault_refusal, IsAtomic, IsQuiet};
+ghost use Rattle.mr_store.specs.declared.keeper.Fault.{Fault};
 ghost use Rattle.mr_store.specs.Picked.{picked_errors, picked_cancelled, picked_cancels, AreBookings, IsPlaceOf};
 ghost use Rattle.mr_store.specs.Taken.{is_taken};
 
@@ -29,8 +30,6 @@ pub enum Fault {
 }
 
 impl From<AllocError> for Fault {
-    ghost use Rattle.mr_store.specs.declared.keeper.Fault.{Fault};
-
     ghost from_gives = { λ _ fault. fault ≡ Fault.OutOfMemory };
 
     fn from(_error: AllocError) -> Fault {
@@ -39,8 +38,6 @@ impl From<AllocError> for Fault {
 }
 
 impl From<Fault> for Refusal {
-    ghost use Rattle.mr_store.specs.KeeperCalls.{fault_refusal};
-
     ghost from_gives = { λ fault refusal. refusal ≡ fault_refusal fault };
 
     /// The refusal that tells of it.

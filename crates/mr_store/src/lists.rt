@@ -2,7 +2,7 @@ ghost use Rattle.std.specs.Prelude.{◌≡◌, Ok, IfErr, IfOk, IsErr, OnErr};
 ghost use Rattle.mr_model.specs.Replica.{opening};
 ghost use Rattle.mr_model.specs.Tables.{tables_of, Stands};
 ghost use Rattle.mr_store.specs.KeeperCalls.{failures_after};
-ghost use Rattle.mr_store.specs.KeeperLists.{IsDueOver};
+ghost use Rattle.mr_store.specs.KeeperLists.{IsDueOver, ListsView};
 
 use crate::keeper::told;
 use crate::memory::Memory;
@@ -22,8 +22,6 @@ pub struct ListKeeper {
 }
 
 impl Model for ListKeeper {
-    ghost use Rattle.mr_store.specs.KeeperLists.{ListsView};
-
     ghost Value = { ListsView };
 
     ghost view = { λ k. record { tables = k.memory; failures = k.failures } };
@@ -70,8 +68,6 @@ fn counted<T>(answer: Result<T, Fault>, failures: &mut u64) -> Result<T, Fault>
 }
 
 impl Keeper for ListKeeper {
-    ghost use Rattle.std.specs.Prelude.{◌≡◌};
-
     ghost tables = { λ k. k.tables };
 
     ghost failures = { λ k. k.failures };

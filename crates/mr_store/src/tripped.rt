@@ -1,4 +1,4 @@
-ghost use Rattle.std.specs.Prelude.{◌≡◌, ◌-◌, false, ◌||◌, IfOk};
+ghost use Rattle.std.specs.Prelude.{◌≡◌, ◌-◌, false, ◌||◌, if◌then◌else◌, IfOk};
 ghost use Rattle.mr_model.specs.Replica.{Replica};
 ghost use Rattle.mr_model.specs.Tables.{Stands};
 ghost use Rattle.mr_tables.specs.Summary.{IsWithin};
@@ -7,6 +7,7 @@ ghost use Rattle.mr_part.specs.NextId.{id_given};
 ghost use Rattle.mr_part.specs.Parts.{IsPartOf};
 ghost use Rattle.mr_part.specs.ScopeOf.{scope_of};
 ghost use Rattle.mr_store.specs.Answers.{IsAnswerTo, IsNamedAs};
+ghost use Rattle.mr_store.specs.KeeperCalls.{failures_for};
 ghost use Rattle.mr_store.specs.Taken.{is_taken};
 ghost use Rattle.mr_store.specs.Trips.{is_due, IsTripped, IsQuietAt, IsAtomicAt};
 
@@ -53,9 +54,6 @@ impl<K: Keeper> Tripped<K> {
 }
 
 impl<K: Keeper> Keeper for Tripped<K> {
-    ghost use Rattle.std.specs.Prelude.{◌≡◌, if◌then◌else◌};
-    ghost use Rattle.mr_store.specs.KeeperCalls.{failures_for};
-
     ghost tables = { λ k. K.tables k.keeper };
 
     ghost failures = { λ k. if k.is_over then failures_for k.fault (K.failures k.keeper) else K.failures k.keeper };

@@ -323,9 +323,13 @@ static CASES: [(&str, &[Row]); 5] = [
 fn cancelled(change: &Change) -> ((u32, u32, u32), (u32, u32), bool) {
     match change.cancelled.first() {
         Some(row) => (
-            (row.server.number(), row.n, row.start),
+            (
+                row.booking.server.number(),
+                row.booking.n,
+                row.booking.start,
+            ),
             (row.by.server.number(), row.by.n),
-            row.committed,
+            row.booking.committed,
         ),
         None => (NONE, (0, 0), false),
     }

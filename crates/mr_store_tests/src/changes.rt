@@ -83,7 +83,8 @@ pub(crate) fn no_change(alloc: Global, meta: MetaRow) -> Change {
 /// 2-6 was taken back by 2-7: its row in oak, on Monday.
 fn taken_back(alloc: Global) -> Result<CancelledRow, Refusal> {
     let row = booking(alloc, ("oak", MONDAY, 600, (2, 6), false))?;
-    Ok(CancelledRow::of_booking(row, id(2, 7)?))
+    let by = id(2, 7)?;
+    Ok(CancelledRow { booking: row, by })
 }
 
 /// A tentative cancel of 2-6 in oak.

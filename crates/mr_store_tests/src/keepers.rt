@@ -106,7 +106,7 @@ impl OfWrite for ErrorRow {
 
 impl OfWrite for CancelledRow {
     fn write(&self) -> (u32, u32) {
-        (self.server.number(), self.n)
+        self.booking.write()
     }
 }
 

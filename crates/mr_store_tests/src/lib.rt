@@ -18,6 +18,8 @@ mod copies;
 #[cfg(test)]
 mod desks;
 #[cfg(test)]
+mod early;
+#[cfg(test)]
 mod hostile_tests;
 #[cfg(test)]
 mod keepers;

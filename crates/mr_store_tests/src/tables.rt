@@ -121,8 +121,9 @@ fn taken_back(
     alloc: Global,
     (number, by, committed): (u32, u32, bool),
 ) -> Result<CancelledRow, Refusal> {
-    let row = booked(alloc, number, committed)?;
-    Ok(CancelledRow::of_booking(row, id(by, 1)?))
+    let booking = booked(alloc, number, committed)?;
+    let by = id(by, 1)?;
+    Ok(CancelledRow { booking, by })
 }
 
 fn add_taken_back(

@@ -1,52 +1,44 @@
-use Rattle.std.proofs.Common.{◌≡◌, ◌||◌, ℕ, true, List, map, refl, sym, ap, subst, ◌∙◌, rules}
-use Rattle.std.proofs.lemmas.List.Sorted.{answers_always}
+use Rattle.std.proofs.Common.{◌≡◌, [], ◌⊎◌, inl, inr, ℕ, List, sym, ap, subst, ◌∙◌}
 use Rattle.std.specs.List.{filter}
 use Rattle.std.specs.Prelude.{IfOk}
-use Rattle.mr_base.specs.Batches.{item_of}
-use Rattle.mr_model.specs.Queries.{log_id}
-use Rattle.mr_model.specs.Scopes.{is_named}
 use Rattle.mr_model.specs.Tables.{LogRow}
-use Rattle.mr_model.proofs.Members.{sorted_filter}
 use Rattle.mr_part.specs.ScopeOf.{scope_of}
 use Rattle.mr_part.specs.declared.scope.Scope.{Scope}
-use Rattle.mr_part.specs.declared.scope.Scope.TheVariants.{Nothing, InRoom, OfTarget, NextCommits, UpTo, Above, Items}
-use Rattle.mr_tables.specs.Change.{id_before}
-use Rattle.mr_tables.specs.TableOrders.{InOrder}
-use Rattle.mr_store.specs.Keyed.{cells_of_id}
-use Rattle.mr_store.specs.Needed.{is_log_needed, is_ranged}
-use Rattle.mr_store.proofs.LogEnds.{sorted_needed}
+use Rattle.mr_part.specs.declared.scope.Scope.TheVariants.{Nothing, InRoom, OfTarget}
+use Rattle.mr_store.specs.Needed.{is_log_needed}
+use Rattle.mr_store.specs.RowKeys.{is_between, log_key}
+use Rattle.mr_store.proofs.LogEnds.{above_between, commits_between, up_to_between}
+use Rattle.mr_store.proofs.NamedRows.{none_picked}
 use Rattle.mr_store.proofs.indexed.Indexed+LogRow.needed.Goals as goal
 
-pub with_named-requires : goal.with_named-requires
-with_named-requires c =
-    subst (InOrder id_before log_id)
-    (sym (sorted_needed (is_ranged c.args.known (scope_of c.args.scope.now)) c.ends_for-first.result.0 c.ends_for-first.result.1 c.args.self.now.rows c.in_ok-rows.rows.items c.sort_by_cached_key.new.self.items c.between.ensures.order c.in_ok-rows.ensures.found c.ends_for-first.ensures.ranged c.sort_by_cached_key.ensures.permutation
-    (c.in_ok-sort_by_cached_key.ensures.sorted (λ r. cells_of_id (log_id r)) (answers_always _ _ _ (λ f a r q k. search rules)))))
-    (sorted_filter (λ a b. id_before (log_id a) (log_id b) ≡ true) (is_ranged c.args.known (scope_of c.args.scope.now)) c.args.self.now.rows c.between.ensures.order)
+-- the scope has no rows of the log
+none_needed : {A B : Type 0} (known : ℕ) (all : List LogRow) (s : Scope) (f : A → Scope) (g : B → Scope) → ((x : A) → filter (is_log_needed known (scope_of (f x))) all ≡ []) → ((x : B) → filter (is_log_needed known (scope_of (g x))) all ≡ []) → (s ≡ Nothing) ⊎ (((x : A) × (s ≡ f x)) ⊎ ((x : B) × (s ≡ g x))) → filter (is_log_needed known (scope_of s)) all ≡ []
+none_needed known all s f g p q (inl e) = ap (λ s. filter (is_log_needed known (scope_of s)) all) e ∙ none_picked all
+none_needed known all s f g p q (inr (inl (x, e))) = ap (λ s. filter (is_log_needed known (scope_of s)) all) e ∙ p x
+none_needed known all s f g p q (inr (inr (x, e))) = ap (λ s. filter (is_log_needed known (scope_of s)) all) e ∙ q x
 
-pub returns-in-Items : goal.returns-in-Items
-returns-in-Items c =
-    let known = c.args.known in
+pub returns-in-Nothing : goal.returns-in-Nothing
+returns-in-Nothing c =
     let all = c.args.self.now.rows in
-    let named = is_named (map item_of c.in-Items.items.now) in
-    subst (λ rs. IfOk c.with_named.result (λ rows. rows.items ≡ rs))
-    (ap (λ s. filter (λ r. is_ranged known (scope_of s) r || named r) all) c.in-Items.is ∙ sym (ap (λ s. filter (is_log_needed known (scope_of s)) all) c.in-Items.is))
-    (c.with_named.ensures (is_ranged known (scope_of c.args.scope.now))
-    (sorted_needed (is_ranged c.args.known (scope_of c.args.scope.now)) c.ends_for-first.result.0 c.ends_for-first.result.1 c.args.self.now.rows c.in_ok-rows.rows.items c.sort_by_cached_key.new.self.items c.between.ensures.order c.in_ok-rows.ensures.found c.ends_for-first.ensures.ranged c.sort_by_cached_key.ensures.permutation
-    (c.in_ok-sort_by_cached_key.ensures.sorted (λ r. cells_of_id (log_id r)) (answers_always _ _ _ (λ f a r q k. search rules)))))
+    c.new.ensures.items ∙ sym (none_needed c.args.known all c.args.scope.now InRoom OfTarget (λ x. none_picked all) (λ x. none_picked all) c.in-Nothing.is)
 
--- the scope is of no batch
-others : (known : ℕ) (all : List LogRow) (s : Scope) → ((items : _) → s ≡ Items items → ⊥) → filter (is_ranged known (scope_of s)) all ≡ filter (is_log_needed known (scope_of s)) all
-others known all Nothing never = refl
-others known all (InRoom room) never = refl
-others known all (OfTarget target) never = refl
-others known all (NextCommits count) never = refl
-others known all (UpTo number) never = refl
-others known all (Above commits) never = refl
-others known all (Items items) never = absurd (never items refl)
+pub returns-in-NextCommits : goal.returns-in-NextCommits
+returns-in-NextCommits c =
+    let all = c.args.self.now.rows in
+    subst (λ rs. IfOk c.ranged.result (λ rows. rows.items ≡ rs))
+    ((λ t. filter (λ r. is_between (c.log_end.ensures t) (c.log_end-in-NextCommits.ensures t) (log_key r)) all) ∙ (λ t. filter (λ r. commits_between r t) all) ∙ ap (λ s. filter (is_log_needed c.args.known (scope_of s)) all) (sym c.in-NextCommits.is))
+    c.ranged.ensures
 
-pub returns-in_default : goal.returns-in_default
-returns-in_default c =
-    sorted_needed (is_ranged c.args.known (scope_of c.args.scope.now)) c.ends_for-first.result.0 c.ends_for-first.result.1 c.args.self.now.rows c.in_ok-rows.rows.items c.sort_by_cached_key.new.self.items c.between.ensures.order c.in_ok-rows.ensures.found c.ends_for-first.ensures.ranged c.sort_by_cached_key.ensures.permutation
-    (c.in_ok-sort_by_cached_key.ensures.sorted (λ r. cells_of_id (log_id r)) (answers_always _ _ _ (λ f a r q k. search rules)))
-    ∙ others c.args.known c.args.self.now.rows c.args.scope.now c.in_default.not-Items
+pub returns-in-UpTo : goal.returns-in-UpTo
+returns-in-UpTo c =
+    let all = c.args.self.now.rows in
+    subst (λ rs. IfOk c.ranged-in-UpTo.result (λ rows. rows.items ≡ rs))
+    ((λ t. filter (λ r. is_between (c.log_end-in-UpTo.ensures t) (c.number_end.ensures t) (log_key r)) all) ∙ (λ t. filter (λ r. up_to_between c.in-UpTo.number r t) all) ∙ ap (λ s. filter (is_log_needed c.args.known (scope_of s)) all) (sym c.in-UpTo.is))
+    c.ranged-in-UpTo.ensures
+
+pub returns-in-Above : goal.returns-in-Above
+returns-in-Above c =
+    let all = c.args.self.now.rows in
+    subst (λ rs. IfOk c.ranged-in-Above.result (λ rows. rows.items ≡ rs))
+    ((λ t. filter (λ r. is_between (c.number_end-in-Above.ensures t) (c.log_end-in-Above.ensures t) (log_key r)) all) ∙ (λ t. filter (λ r. above_between c.in-Above.commits r t) all) ∙ ap (λ s. filter (is_log_needed c.args.known (scope_of s)) all) (sym c.in-Above.is))
+    c.ranged-in-Above.ensures

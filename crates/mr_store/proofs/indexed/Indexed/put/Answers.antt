@@ -4,7 +4,8 @@ use Rattle.std.specs.BTreeMap.{insert_entry, is_at}
 use Rattle.std.specs.Map.{values_of, lookup}
 use Rattle.mr_model.specs.Writes.{same_id}
 use Rattle.mr_tables.specs.Change.{id_before, put}
-use Rattle.mr_store.specs.Keyed.{cells_cmp, IsKeyed}
+use Rattle.mr_base.specs.Ids.{id_cmp}
+use Rattle.mr_store.specs.Keyed.{IsKeyed}
 use Rattle.mr_store.specs.RowKeys.{has, IndexView, IsIndexed, IsTable}
 use Rattle.mr_store.proofs.ByKeys.{still, IsIndexed-more, IsIndexed-put}
 use Rattle.mr_store.proofs.RowsById.{found, on_err, rows_put, IsKeyed-put}
@@ -35,7 +36,7 @@ invariant_of-self-2 g c =
     let key = g.R.KeyedRow.second_key in
     let old = c.self.inside.rows.entries in
     let new = c.insert.new.self in
-    let entries = c.in_ok-insert-2.ensures.entries ∙ ap (λ k. insert_entry cells_cmp old k c.args.row) c.cells_of_id.ensures in
+    let entries = c.in_ok-insert-2.ensures.entries ∙ ap (λ k. insert_entry id_cmp old k c.args.row) c.write_id.ensures in
     record {
       keyed = subst (IsKeyed id) (sym entries) (IsKeyed-put id old c.args.row c.self.invariant.keyed);
       index = subst (λ rows. IsIndexed id key rows new) (sym (ap values_of entries ∙ rows_put id old c.args.row c.self.invariant.keyed))
@@ -48,7 +49,7 @@ pub returns-clause-put : goal.returns-clause-put
 returns-clause-put g c =
     let id = g.R.IdRow.id in
     let old = c.self.inside.rows.entries in
-    ap values_of (c.in_ok-insert-2.ensures.entries ∙ ap (λ k. insert_entry cells_cmp old k c.args.row) c.cells_of_id.ensures)
+    ap values_of (c.in_ok-insert-2.ensures.entries ∙ ap (λ k. insert_entry id_cmp old k c.args.row) c.write_id.ensures)
     ∙ rows_put id old c.args.row c.self.invariant.keyed
     ∙ ap (λ v. put id_before id c.args.row (IndexView.rows v)) c.self.view_is
 
@@ -56,7 +57,7 @@ pub returns-clause-old : goal.returns-clause-old
 returns-clause-old g c =
     let id = g.R.IdRow.id in
     let old = c.self.inside.rows.entries in
-    c.in_ok-insert-2.ensures.old ∙ ap (λ k. lookup (is_at (cells_cmp k)) old) c.cells_of_id.ensures ∙ found id old (id c.args.row) c.self.invariant.keyed ∙ ap (λ v. find (λ r. same_id (id r) (id c.args.row)) (IndexView.rows v)) c.self.view_is
+    c.in_ok-insert-2.ensures.old ∙ ap (λ k. lookup (is_at (id_cmp k)) old) c.write_id.ensures ∙ found id old (id c.args.row) c.self.invariant.keyed ∙ ap (λ v. find (λ r. same_id (id r) (id c.args.row)) (IndexView.rows v)) c.self.view_is
 
 pub returns-clause-keys : goal.returns-clause-keys
 returns-clause-keys g c = λ k there.
@@ -78,4 +79,4 @@ returns-in_err-insert-2-clause-absent g c = λ there.
     let id = g.R.IdRow.id in
     let old = c.self.inside.rows.entries in
     on_err c.from_residual-in_err-insert-2.result
-    (ap (λ v. find (λ r. same_id (id r) (id c.args.row)) (IndexView.rows v)) (sym c.self.view_is) ∙ sym (found id old (id c.args.row) c.self.invariant.keyed) ∙ sym (ap (λ k. lookup (is_at (cells_cmp k)) old) c.cells_of_id.ensures) ∙ c.in_err-insert-2.ensures.absent)
+    (ap (λ v. find (λ r. same_id (id r) (id c.args.row)) (IndexView.rows v)) (sym c.self.view_is) ∙ sym (found id old (id c.args.row) c.self.invariant.keyed) ∙ sym (ap (λ k. lookup (is_at (id_cmp k)) old) c.write_id.ensures) ∙ c.in_err-insert-2.ensures.absent)

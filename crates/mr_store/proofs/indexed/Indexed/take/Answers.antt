@@ -1,9 +1,7 @@
 use Rattle.std.proofs.Common.{◌∷◌, [], sym, ap, subst, ◌∙◌}
-use Rattle.std.specs.BTreeMap.{is_at}
-use Rattle.std.specs.Map.{values_of, remove_entry}
-use Rattle.mr_model.specs.Writes.{Id}
+use Rattle.std.specs.Map.{values_of}
 use Rattle.mr_tables.specs.Change.{rows_without}
-use Rattle.mr_store.specs.Keyed.{cells_cmp, IsKeyed}
+use Rattle.mr_store.specs.Keyed.{IsKeyed}
 use Rattle.mr_store.specs.RowKeys.{IndexView, IsIndexed}
 use Rattle.mr_store.proofs.ByKeys.{index_without}
 use Rattle.mr_store.proofs.RowsById.{rows_taken, IsKeyed-taken}
@@ -13,7 +11,7 @@ pub invariant_of-self : goal.invariant_of-self
 invariant_of-self g c =
     let id = g.R.IdRow.id in
     let old = c.self.inside.rows.entries in
-    let i : Id = record { server = c.args.cells.0; n = c.args.cells.1 } in
+    let i = c.args.id in
     record {
       keyed = subst (IsKeyed id) (sym c.remove.ensures.entries) (IsKeyed-taken id old i c.self.invariant.keyed);
       index = subst (λ rows. IsIndexed id g.R.KeyedRow.second_key rows c.self.inside.keys) (sym (ap values_of c.remove.ensures.entries ∙ rows_taken id old i c.self.invariant.keyed))
@@ -21,7 +19,6 @@ invariant_of-self g c =
     }
 
 pub returns-clause-rows : goal.returns-clause-rows
-returns-clause-rows g c = λ i is.
+returns-clause-rows g c =
     let id = g.R.IdRow.id in
-    let old = c.self.inside.rows.entries in
-    ap values_of (c.remove.ensures.entries ∙ ap (λ k. remove_entry (is_at (cells_cmp k)) old) is) ∙ rows_taken id old i c.self.invariant.keyed ∙ ap (λ v. rows_without id (i ∷ []) (IndexView.rows v)) c.self.view_is
+    ap values_of c.remove.ensures.entries ∙ rows_taken id c.self.inside.rows.entries c.args.id c.self.invariant.keyed ∙ ap (λ v. rows_without id (c.args.id ∷ []) (IndexView.rows v)) c.self.view_is
