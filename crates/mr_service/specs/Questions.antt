@@ -46,7 +46,7 @@ abbrev pub has_tentative : Id → List CancelRow → Bool
 has_tentative id cancels = list_any (is_tentative_cancel id) cancels
 
 -- a committed booking that a cancel of this set took back
-abbrev pub is_back : BTreeSet (ℕ × ℕ) → CancelledRow → Bool
+abbrev pub is_back : BTreeSet Id → CancelledRow → Bool
 is_back tentative row = row.committed && has_id tentative row.by
 
 -- the rows of a room's committed calendar, of all its bookings, those that were taken back, and its cancels

@@ -52,7 +52,7 @@ fn add_if_tentative(ids: &mut IdSet, row: &CancelRow) -> Result<(), Refusal>
     ensures only { IfErr result (λ e. e ≡ Refusal.OutOfMemory) }
 {
     if row.seq == 0 {
-        ids.insert((row.server, row.n))?;
+        ids.insert(row.id())?;
     }
     Ok(())
 }
@@ -88,9 +88,8 @@ fn put_if_back(
     ensures rows { OnOk result (shown.new.items ≡ shown.old.items ++ map as_booked (filter (is_back tentative.now) (row ∷ []))) }
     ensures only { IfErr result (λ e. e ≡ Refusal.OutOfMemory) }
 {
-    let by = row.by;
-    if row.committed && tentative.contains(&(by.server, by.n)) {
-        shown.push(row.booking())?;
+    if row.booking.committed && tentative.contains(&row.by) {
+        shown.push(row.booking)?;
     }
     Ok(())
 }

@@ -35,7 +35,7 @@ pub(crate) fn cancelled(row: &CancelledRow, by: &CancelRow) -> Outcome
 {
     Outcome::Cancelled {
         id: row.id(),
-        is_committed: row.committed,
+        is_committed: row.booking.committed,
         by: by.id(),
         by_committed: by.seq != 0,
     }

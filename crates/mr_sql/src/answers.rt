@@ -75,7 +75,7 @@ fn choose_taken(
     ensures { result ≡ taken_in room.now cancelled cancel }
 {
     match cancelled {
-        Some(row) if row.room == *room => Some(PlaceRow::Cancelled(row)),
+        Some(row) if row.booking.room == *room => Some(PlaceRow::Cancelled(row)),
         _ => match cancel {
             Some(row) if row.room == *room => Some(PlaceRow::Cancel(row)),
             _ => None,

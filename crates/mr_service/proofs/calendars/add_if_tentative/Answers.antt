@@ -1,9 +1,9 @@
-use Rattle.std.proofs.Common.{◌≡◌, ◌∙◌, ◌&&◌, ◌||◌, ℕ, Bool, true, false, refl, ap, sym, subst, eq-eqb}
+use Rattle.std.proofs.Common.{◌≡◌, ◌∙◌, ◌&&◌, ◌||◌, Bool, true, false, refl, ap, sym, subst, eq-eqb}
 use Rattle.std.specs.BTreeSet.{Updates}
-use Rattle.std.specs.Ordering.{nat_cmp, ordering_then}
 use Rattle.mr_model.specs.Queries.{cancel_id}
 use Rattle.mr_model.specs.Tables.{CancelRow}
-use Rattle.mr_model.specs.Writes.{same_id}
+use Rattle.mr_model.specs.Writes.{Id, same_id}
+use Rattle.mr_base.specs.Ids.{id_cmp}
 use Rattle.mr_part.specs.Sets.{has_id}
 use Rattle.mr_part.proofs.Sets.{id_more}
 use Rattle.mr_service.proofs.calendars.add_if_tentative.Goals as goal
@@ -18,6 +18,7 @@ returns-in_ok-insert-clause-ids c = λ id.
     let old = c.args.ids.now in
     let new = c.insert.new.self in
     let zero : row.seq ≡ 0 = sym (ap (λ (r : CancelRow). r.seq) c.row.view_is) ∙ c.if-row-eq0.true in
-    let updates = subst (λ (r : CancelRow). Updates (λ (x y : ℕ × ℕ). ordering_then (nat_cmp x.0 y.0) (nat_cmp x.1 y.1)) old new (r.server, r.n) true) c.row.view_is c.in_ok-insert.ensures.updates in
+    let own = c.id.ensures in
+    let updates = subst (λ (i : Id). Updates id_cmp old new i true) own c.in_ok-insert.ensures.updates in
     id_more old new (cancel_id row) id updates
     ∙ ap (λ b. b || has_id old id) (and_true (same_id (cancel_id row) id) _ (eq-eqb row.seq 0 zero))
