@@ -30,7 +30,7 @@ fn is_logged<K: Keeper>(keeper: &mut K, room: &RoomName) -> bool {
 
 fn is_cancelled<K: Keeper>(keeper: &mut K, room: &RoomName) -> bool {
     match keeper.cancelled(room) {
-        Ok(rows) => rows.len() == 1 && rows[0].n == 1 && rows[0].by.n == 3,
+        Ok(rows) => rows.len() == 1 && rows[0].booking.n == 1 && rows[0].by.n == 3,
         Err(_) => false,
     }
 }
@@ -62,7 +62,7 @@ fn place<K: Keeper>(keeper: &mut K, room: &RoomName, n: u32) -> Result<(u32, Kin
     match keeper.place_of(room, id) {
         Ok(Some(PlaceRow::Booked(row))) => Ok((row.n, Kind::Booked)),
         Ok(Some(PlaceRow::Logged(row))) => Ok((row.n, Kind::Logged)),
-        Ok(Some(PlaceRow::Cancelled(row))) => Ok((row.n, Kind::Cancelled)),
+        Ok(Some(PlaceRow::Cancelled(row))) => Ok((row.booking.n, Kind::Cancelled)),
         Ok(Some(PlaceRow::Cancel(row))) => Ok((row.n, Kind::Cancel)),
         _ => Ok((0, Kind::Nowhere)),
     }
