@@ -11,3 +11,4 @@ pub mod NumberLemmas
 pub mod FirstTaken
 pub mod FileLemmas
 pub mod CopyLemmas
+pub mod ColumnLemmas

@@ -4,7 +4,7 @@ ghost use Rattle.std.specs.Prelude.{◌≡◌, [], ◌∷◌, IsTrue, false, map
 ghost use Rattle.sqlite_value.specs.Keys.{plain};
 ghost use Rattle.sqlite.specs.Held.{state};
 ghost use Rattle.mr_rows.specs.Schema.{no_schema, column_of, first_schema, our_schema};
-ghost use Rattle.mr_sql.specs.OurSchema.{IsPlainTable, table_told, index_told, schema_told};
+ghost use Rattle.mr_sql.specs.OurSchema.{IsPlainTable, kind_told, columns_told, primary_told, table_told, index_told, schema_told};
 
 use crate::our_tables::{OURS, Wanted};
 use mr_rows::Idle;
@@ -14,6 +14,17 @@ use sqlite_schema::code::Terms;
 use sqlite_schema::schema::{Column, Index, Kind, Schema, Stamps, Table};
 use sqlite_value::keys::{Collation, Order};
 use sqlite_value::value::Value;
+
+// The kind of the column of this name.
+fn kind_of(name: &str, texts: &[&str]) -> Kind
+    ensures { result ≡ kind_told texts.now name.now }
+{
+    if texts.contains(&name) {
+        Kind::Text
+    } else {
+        Kind::Integer
+    }
+}
 
 // Strict, never NULL, compared byte by byte, and with no default.
 fn is_column(column: &Column, name: &str, kind: Kind) -> bool
@@ -28,19 +39,18 @@ fn is_column(column: &Column, name: &str, kind: Kind) -> bool
         && column.collation == Collation::Binary
 }
 
-fn are_columns(columns: &[Column], wanted: &[(&str, Kind)]) -> bool
-    ensures same { IsTrue result → columns.now ≡ map (λ c. column_of c.0.now c.1) wanted.now }
-    ensures other { result ≡ false → columns.now ≡ map (λ c. column_of c.0.now c.1) wanted.now → ⊥ }
+fn are_columns(columns: &[Column], names: &str, texts: &[&str]) -> bool
+    ensures same { IsTrue result → columns.now ≡ columns_told texts.now names.now }
+    ensures other { result ≡ false → columns.now ≡ columns_told texts.now names.now → ⊥ }
 {
-    if columns.len() != wanted.len() {
+    let Some((column, rest)) = columns.split_first() else {
         return false;
+    };
+    match names.split_once(' ') {
+        Some((name, names)) => is_column(column, name, kind_of(name, texts))
+            && are_columns(rest, names, texts),
+        None => is_column(column, names, kind_of(names, texts)) && rest.is_empty(),
     }
-    'at: for at in 0..columns.len() {
-        if !is_column(&columns[at], wanted[at].0, wanted[at].1) {
-            return false;
-        }
-    }
-    true
 }
 
 fn are_places(places: &Items<usize>, wanted: &[usize]) -> bool
@@ -48,6 +58,18 @@ fn are_places(places: &Items<usize>, wanted: &[usize]) -> bool
     ensures other { result ≡ false → places.now ≡ wanted.now → ⊥ }
 {
     places.as_slice() == wanted
+}
+
+// The key's places, or none if it is merely unique.
+fn is_primary_key(places: &Items<usize>, wanted: &Wanted) -> bool
+    ensures same { IsTrue result → places.now ≡ primary_told wanted.now }
+    ensures other { result ≡ false → places.now ≡ primary_told wanted.now → ⊥ }
+{
+    if wanted.is_primary {
+        are_places(places, wanted.key)
+    } else {
+        places.is_empty()
+    }
 }
 
 // One key, by these places.
@@ -100,8 +122,8 @@ fn is_table(table: &Table, wanted: &Wanted) -> bool
     is_plain(table)
         && table.name.as_slice() == wanted.name.as_bytes()
         && table.tree == wanted.tree
-        && are_columns(table.columns.as_slice(), wanted.columns)
-        && are_places(&table.primary, wanted.primary)
+        && are_columns(table.columns.as_slice(), wanted.columns, wanted.texts)
+        && is_primary_key(&table.primary, wanted)
         && is_one_key(table.uniques.as_slice(), wanted.key)
         && is_one_order(table.orders.as_slice())
 }
@@ -110,8 +132,8 @@ fn is_index(index: &Index, wanted: &Wanted) -> bool
     ensures same { IsTrue result → index.now ≡ index_told wanted.now }
     ensures other { result ≡ false → index.now ≡ index_told wanted.now → ⊥ }
 {
-    index.name.as_slice() == wanted.index.0.as_bytes()
-        && index.tree == wanted.index.1
+    index.name.as_slice() == wanted.index.as_bytes()
+        && u64::from(index.tree) == u64::from(wanted.tree) + 1
         && index.table == wanted.tree
         && are_places(&index.columns, wanted.key)
         && index.order.digits == 0
