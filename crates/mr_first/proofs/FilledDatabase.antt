@@ -1,5 +1,5 @@
 -- First tables put into a database that has no row are then those of the database.
-use Rattle.std.proofs.Common.{◌≡◌, sym, subst, suc, ◌+◌, ◌<◌, nat_lt, true, Bool, List, [], ◌∷◌, length, get_or, arith}
+use Rattle.std.proofs.Common.{◌≡◌, subst, suc, ◌+◌, ◌<◌, nat_lt, true, Bool, List, [], ◌∷◌, length, get_or, arith}
 use Rattle.std.specs.List.{AllByRecursion}
 use Rattle.sqlite_schema.specs.declared.schema.Table.{Table}
 use Rattle.sqlite.specs.Effect.{Database}
@@ -13,7 +13,7 @@ use Rattle.mr_tables.specs.Rise.{Rise}
 use Rattle.mr_tables.specs.TableOrders.{IsOrder, InOrder, id_order, number_order, name_order}
 use Rattle.mr_rows.specs.Schema.{first_schema}
 use Rattle.mr_rows.specs.Form.{room_form, vector_form, booking_form, error_form}
-use Rattle.mr_rows.specs.Database.{IsHeld, first_meta, in_order}
+use Rattle.mr_rows.specs.Database.{first_meta, in_order}
 use Rattle.mr_first.specs.Forms.{write_id, undo_id, first_meta_form, write_form, undo_form}
 use Rattle.mr_first.specs.FirstDatabase.{IsFirst, first_in}
 use Rattle.mr_first.specs.FirstParts.{tables_put, no_first_tables, AreFirstKeysRising}
@@ -70,13 +70,13 @@ blank_first db schema rows =
       record {
         schema = schema;
         held = record {
-          meta = subst (IsHeld first_meta_form) (sym meta) (held_none first_meta_form);
-          room = subst (IsHeld room_form) (sym room) (held_none room_form);
-          vector = subst (IsHeld vector_form) (sym vector) (held_none vector_form);
-          write_log = subst (IsHeld write_form) (sym writes) (held_none write_form);
-          undo = subst (IsHeld undo_form) (sym undo) (held_none undo_form);
-          booking = subst (IsHeld booking_form) (sym booking) (held_none booking_form);
-          errorlog = subst (IsHeld error_form) (sym error) (held_none error_form);
+          meta = held_none first_meta_form meta;
+          room = held_none room_form room;
+          vector = held_none vector_form vector;
+          write_log = held_none write_form writes;
+          undo = held_none undo_form undo;
+          booking = held_none booking_form booking;
+          errorlog = held_none error_form error;
         };
       },
       λ i. record {

@@ -1,4 +1,4 @@
--- A reader of the contracts trusts all of these.
+-- A reader of the contracts trusts all of these but TableTexts, which serves a private clause and proofs alone.
 pub mod FirstCells
 pub mod Forms
 pub mod FirstDatabase
@@ -7,3 +7,4 @@ pub mod FirstParts
 pub mod FirstShown
 pub mod MovedUp
 pub mod MoveUpSteps
+pub mod TableTexts

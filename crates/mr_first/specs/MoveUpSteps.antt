@@ -1,15 +1,15 @@
 -- The steps of moving up within its transaction: rows taken away, tables made, and what is then there.
-use Rattle.std.specs.Prelude.{◌≡◌, ◌≢◌, ℕ, List, [], IsTrue, Result, OnOk}
+use Rattle.std.specs.Prelude.{◌≡◌, ◌≢◌, ℕ, List, [], ◌++◌, IsTrue, Result, OnOk}
+use Rattle.std.specs.List.{AllByRecursion}
 use Rattle.sqlite_schema.specs.declared.schema.Schema.{Schema}
 use Rattle.sqlite_schema.specs.declared.schema.Table.{Table}
 use Rattle.sqlite_rules.specs.Edit.{IsNoIndex}
 use Rattle.sqlite_catalog.specs.Change.{KeepsRows}
-use Rattle.sqlite.specs.Change.{created, next_tree}
 use Rattle.sqlite.specs.State.{State, HasCleanDisk}
 use Rattle.sqlite.specs.declared.error.Error.{Error}
 use Rattle.mr_model.specs.Tables.{MetaRow, LogRow, Tables}
 use Rattle.mr_model.specs.First.{FirstTables}
-use Rattle.mr_rows.specs.Schema.{first_schema, our_schema}
+use Rattle.mr_rows.specs.Schema.{first_schema}
 use Rattle.mr_rows.specs.Shelf.{IsShelf}
 use Rattle.mr_rows.specs.Database.{first_meta, IsTablesStep}
 use Rattle.mr_rows.specs.ChangeParts.{put_meta, put_logs}
@@ -41,30 +41,20 @@ pub record IsEmptied (old new : State) : Type 0 where
   pub committed : new.committed ≡ old.committed
   pub within : IsTrue new.in_transaction
 
--- ---- a table made beside others, which keep their rows
+-- ---- tables made beside others, which keep their rows
 
-pub record IsExtended (before : Schema) (table : Table) (old new : State) : Type 0 where
-  pub schema : new.now.schema ≡ created before table
+-- one schema became another, whose further tables have no rows
+pub record IsExtended (before after : Schema) (old new : State) : Type 0 where
+  pub schema : new.now.schema ≡ after
+  pub further : List Table
+  pub beside : after.tables ≡ before.tables ++ further
   pub rows : KeepsRows before.tables old.now.trees new.now.trees
-  pub empty : new.now.trees (next_tree before) ≡ []
+  pub empty : AllByRecursion (λ t. new.now.trees t.tree ≡ []) further
   pub committed : new.committed ≡ old.committed
   pub within : IsTrue new.in_transaction
 
-abbrev pub Extends : {X : Type 0} → Schema → Table → State → State → Result X Error → Type 0
-Extends before table old new result = HasCleanDisk new → IsTrue old.in_transaction → old.now.schema ≡ before → OnOk result (IsExtended before table old new)
-
--- the first schema became the second, whose own tables have no rows
-pub record IsWidened (old new : State) : Type 0 where
-  pub schema : new.now.schema ≡ our_schema
-  pub rows : KeepsRows first_schema.tables old.now.trees new.now.trees
-  pub log : new.now.trees 14 ≡ []
-  pub cancelled : new.now.trees 16 ≡ []
-  pub cancels : new.now.trees 18 ≡ []
-  pub committed : new.committed ≡ old.committed
-  pub within : IsTrue new.in_transaction
-
-abbrev pub Widens : {X : Type 0} → State → State → Result X Error → Type 0
-Widens old new result = HasCleanDisk new → IsTrue old.in_transaction → old.now.schema ≡ first_schema → OnOk result (IsWidened old new)
+abbrev pub Extends : {X : Type 0} → Schema → Schema → State → State → Result X Error → Type 0
+Extends before after old new result = HasCleanDisk new → IsTrue old.in_transaction → old.now.schema ≡ before → OnOk result (IsExtended before after old new)
 
 -- ---- the tables of the second schema before the log and the row of `meta` are put
 

@@ -3,39 +3,27 @@
 ghost use Rattle.std.specs.Prelude.{◌≡◌, IsTrue, OnOk};
 ghost use Rattle.sqlite.specs.State.{HasCleanDisk, KeepsCommit, Survives};
 ghost use Rattle.sqlite.specs.Held.{state};
-ghost use Rattle.mr_rows.specs.Schema.{no_schema, first_schema};
+ghost use Rattle.mr_rows.specs.Schema.{no_schema};
 ghost use Rattle.mr_first.specs.FirstDatabase.{IsKeptFirst, IsFirstStep, first_in};
 ghost use Rattle.mr_first.specs.FirstParts.{tables_put, no_first_tables};
-ghost use Rattle.mr_sql.specs.Blank.{IsBlank, GrowsSchema};
 
-use crate::create::{create_first_rows, create_heads};
 use mr_first::First;
+use mr_first::creating::create_first_tables;
 use mr_first::puts::put_tables;
 use mr_rows::Idle;
 use sqlite::{Alter, Error, Transaction};
 use std::alloc::Global;
 
-/// Makes the tables of the first schema.
-fn create_tables<S: Alter>(tx: &mut Transaction<'_, S>) -> Result<(), Error>
-    ensures same_reference { tx.new.conn.ghost_name ≡ tx.old.conn.ghost_name }
-    ensures grown { GrowsSchema no_schema first_schema (state S.Store tx.old.conn.now) (state S.Store tx.new.conn.now) result }
-    ensures kept { HasCleanDisk (state S.Store tx.new.conn.now) → KeepsCommit (state S.Store tx.old.conn.now) (state S.Store tx.new.conn.now) }
-    ensures survives { Survives (state S.Store tx.old.conn.now) (state S.Store tx.new.conn.now) (λ _. ⊥) }
-{
-    create_heads(tx)?;
-    create_first_rows(tx)
-}
-
 /// Makes the tables, and puts these rows.
 fn fill<S: Alter>(tx: &mut Transaction<'_, S>, alloc: Global, tables: &First) -> Result<(), Error>
     ensures same_reference { tx.new.conn.ghost_name ≡ tx.old.conn.ghost_name }
     ensures filled { HasCleanDisk (state S.Store tx.new.conn.now) → IsTrue (state S.Store tx.old.conn.now).in_transaction
-        → IsBlank no_schema (state S.Store tx.old.conn.now).now
+        → (state S.Store tx.old.conn.now).now.schema ≡ no_schema
         → OnOk result (IsFirstStep (state S.Store tx.old.conn.now) (state S.Store tx.new.conn.now) (tables_put tables.now no_first_tables)) }
     ensures kept { HasCleanDisk (state S.Store tx.new.conn.now) → KeepsCommit (state S.Store tx.old.conn.now) (state S.Store tx.new.conn.now) }
     ensures survives { Survives (state S.Store tx.old.conn.now) (state S.Store tx.new.conn.now) (λ _. ⊥) }
 {
-    create_tables(tx)?;
+    create_first_tables(tx)?;
     put_tables(tx, alloc, tables)
 }
 
@@ -45,8 +33,8 @@ pub(crate) fn create_first<S: Alter>(
     alloc: Global,
     tables: &First,
 ) -> Result<(), Error>
-    ensures kept { HasCleanDisk (state S.Store conn.new) → IsBlank no_schema (state S.Store conn.old).now → OnOk result (IsKeptFirst (state S.Store conn.new)) }
-    ensures tables { HasCleanDisk (state S.Store conn.new) → IsBlank no_schema (state S.Store conn.old).now
+    ensures kept { HasCleanDisk (state S.Store conn.new) → (state S.Store conn.old).now.schema ≡ no_schema → OnOk result (IsKeptFirst (state S.Store conn.new)) }
+    ensures tables { HasCleanDisk (state S.Store conn.new) → (state S.Store conn.old).now.schema ≡ no_schema
         → OnOk result (first_in (state S.Store conn.new).now.trees ≡ tables_put tables.now no_first_tables) }
 {
     let mut tx = conn.connection.transaction();

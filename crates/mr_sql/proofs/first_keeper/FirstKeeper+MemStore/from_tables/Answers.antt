@@ -10,8 +10,8 @@ use Rattle.mr_sql.proofs.first_keeper.FirstKeeper+MemStore.from_tables.Goals as 
 pub returns-in-Ok-clause-made : goal.returns-in-Ok-clause-made
 returns-in-Ok-clause-made c =
     let rising : AreFirstKeysRising c.args.tables.now = search rules in
-    c.in-Ok.ensures.tables (memory_is_clean c.create_first.new.conn) (c.in_ok-conn.ensures.empty.2, tt) ∙ put_into_none c.args.tables.now rising
+    c.in-Ok.ensures.tables (memory_is_clean c.create_first.new.conn) c.in_ok-conn.ensures.empty.2 ∙ put_into_none c.args.tables.now rising
 
 pub returns-in-Ok-clause-settled : goal.returns-in-Ok-clause-settled
 returns-in-Ok-clause-settled c =
-    alone_first (state over_memory c.create_first.new.conn) (c.in-Ok.ensures.kept (memory_is_clean c.create_first.new.conn) (c.in_ok-conn.ensures.empty.2, tt)) (λ db left. left)
+    alone_first (state over_memory c.create_first.new.conn) (c.in-Ok.ensures.kept (memory_is_clean c.create_first.new.conn) c.in_ok-conn.ensures.empty.2) (λ db left. left)
