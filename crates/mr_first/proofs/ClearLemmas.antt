@@ -14,9 +14,9 @@ use Rattle.sqlite.proofs.Callers.{statement_of, runs_as}
 use Rattle.mr_rows.specs.Schema.{first_schema}
 use Rattle.mr_rows.specs.Shelf.{IsShelf}
 use Rattle.mr_rows.specs.Form.{Form}
-use Rattle.mr_rows.proofs.StatementMeaning.{MeansIn, program_of}
+use Rattle.mr_rows.specs.StatementMeaning.{MeansIn, program_of}
 use Rattle.mr_rows.proofs.FormLemmas.{deletes}
-use Rattle.mr_rows.proofs.TableLemmas.{Facts, on_table}
+use Rattle.mr_rows.proofs.TableLemmas.{on_table}
 use Rattle.mr_rows.proofs.StepLemmas.{clean_before}
 use Rattle.mr_first.specs.Forms.{first_meta_form, write_form, undo_form}
 use Rattle.mr_first.specs.FirstDatabase.{IsFirst}
@@ -25,6 +25,7 @@ use Rattle.mr_first.proofs.FirstStatementMeaning.{clear_meta_text, clear_meta_is
 use Rattle.mr_rows.proofs.TableFacts.{meta_facts_first}
 use Rattle.mr_first.proofs.Facts.{write_facts, undo_facts}
 use Rattle.mr_first.proofs.FirstSteps.{no_index-0, no_index-2, no_index-4, no_index-6, no_index-8, no_index-10, no_index-12}
+use Rattle.mr_rows.specs.Facts.{Facts}
 
 none_left : (rows : List Row) → filter (λ _. false) rows ≡ []
 none_left [] = refl

@@ -3,8 +3,9 @@ use Rattle.std.proofs.Common.{refl}
 use Rattle.sqlite_value.specs.Keys.{first_key}
 use Rattle.mr_tables.specs.TableOrders.{id_order}
 use Rattle.mr_rows.specs.Schema.{first_schema}
-use Rattle.mr_rows.proofs.TableLemmas.{Facts, facts_by_id}
+use Rattle.mr_rows.proofs.TableLemmas.{facts_by_id}
 use Rattle.mr_first.specs.Forms.{write_form, undo_form}
+use Rattle.mr_rows.specs.Facts.{Facts}
 
 unfoldable pub write_facts : Facts first_schema write_form
 unfolding first_key

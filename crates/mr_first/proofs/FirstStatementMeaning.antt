@@ -5,7 +5,7 @@ use Rattle.sqlite_tied.specs.Compute.{everything}
 use Rattle.sqlite.specs.Listing.{understood}
 use Rattle.sqlite.specs.Command.TheVariants.{Delete}
 use Rattle.mr_rows.specs.Schema.{first_schema}
-use Rattle.mr_rows.proofs.StatementMeaning.{MeansIn, program_of}
+use Rattle.mr_rows.specs.StatementMeaning.{MeansIn, program_of}
 
 abbrev pub clear_meta_text : List ℕ
 clear_meta_text = codes "DELETE FROM meta"

@@ -4,7 +4,6 @@ pub mod FirstSteps
 pub mod ClearLemmas
 pub mod MakeLemmas
 pub mod ReadLemmas
-pub mod SureFirstTexts
 pub mod PairLemmas
 pub mod Held
 pub mod FilledDatabase

@@ -8,7 +8,7 @@ use Rattle.mr_model.specs.Replay.{Place, Taken, Logged, Done, Void}
 use Rattle.mr_model.specs.First.{WriteRow, FirstUndoRow}
 use Rattle.mr_rows.specs.RowCells.{nat_of, whole_of, place_number, place_in}
 use Rattle.mr_rows.specs.RowLimits.{is_choices, is_commit}
-use Rattle.mr_rows.specs.CellLimits.{is_number, is_text, is_time_cell, is_commit_cell, is_id_cells}
+use Rattle.mr_rows.specs.Columns.{Columns}
 
 abbrev pub write_cells : WriteRow → Row
 write_cells w = Int (pos w.server) ∷ Int (pos w.n) ∷ Int (pos w.time) ∷ Text w.room ∷ Int (pos w.length) ∷ Text w.choices ∷ Text w.title ∷ Int (pos w.seq) ∷ []
@@ -59,14 +59,6 @@ is_first_place_cell (Real x) = false
 is_first_place_cell (Text t) = false
 is_first_place_cell (Blob b) = false
 
-abbrev pub are_first_meeting_cells : Row → Bool
-are_first_meeting_cells r = is_number 1 1440 (column r 4) && is_text (is_choices (nat_of (column r 4))) (column r 5) && is_text is_title (column r 6)
-
--- (columns are counted from 0, as queries show them)
-abbrev pub are_write_cells : Row → Bool
-are_write_cells r =
-    is_id_cells (column r 0) (column r 1) && is_time_cell (column r 2) && is_text is_room_name (column r 3) && are_first_meeting_cells r
-    && is_commit_cell (column r 7)
-
-abbrev pub are_undo_cells : Row → Bool
-are_undo_cells r = is_id_cells (column r 0) (column r 1) && is_first_place_cell (column r 2)
+-- the place of a booking with at most eight alternatives
+abbrev pub first_place_columns : Columns Place
+first_place_columns = record { width = 1; cells = λ p. Int (place_number p) ∷ []; value_in = λ r. place_in (whole_of (column r 0)); are = λ r. is_first_place_cell (column r 0); within = is_first_place }

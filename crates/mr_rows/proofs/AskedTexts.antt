@@ -29,12 +29,13 @@ use Rattle.mr_rows.specs.Form.{Form}
 use Rattle.mr_rows.specs.Database.{IsRowOf}
 use Rattle.mr_rows.specs.Shown.{IsShownAs, IsStoredAs, AreStoredAs}
 use Rattle.mr_rows.specs.RowsAsked.{AreChosen, AsksFor}
-use Rattle.mr_rows.proofs.StatementMeaning.{MeansQuery, asks, one_test, id_tests, program_of, names_of}
+use Rattle.mr_rows.specs.StatementMeaning.{MeansQuery, asks, one_test, id_tests, program_of, names_of}
 use Rattle.mr_rows.proofs.ValueLemmas.{equal_text, and_true, id_test}
 use Rattle.mr_rows.proofs.FormLemmas.{shows, has_moved}
 use Rattle.mr_rows.proofs.CauseLemmas.{all_mapped}
 use Rattle.mr_rows.proofs.SureTexts.{is_whole, sure_text}
-use Rattle.mr_rows.proofs.TableLemmas.{Facts, finds_rows}
+use Rattle.mr_rows.proofs.TableLemmas.{finds_rows}
+use Rattle.mr_rows.specs.Facts.{Facts}
 
 -- ---- what such a text shows
 
@@ -80,22 +81,22 @@ asks_for f facts text tests params chosen means picks same own whole accepts = r
 }
 
 -- for the rows of a room, whose name is in this column
-pub room_asks : {R K : Type 0} (f : Form R K) (facts : Facts our_schema f) (text : List ℕ) (at : ℕ) (room_of : R → texts.Text) → MeansQuery text (asks f.table (one_test at)) → ((x : R) (v : Value) → column (v ∷ f.cells x) at ≡ Text (room_of x))
+pub room_asks : {R K : Type 0} {f : Form R K} (facts : Facts our_schema f) (text : List ℕ) (at : ℕ) (room_of : R → texts.Text) → MeansQuery text (asks f.table (one_test at)) → ((x : R) (v : Value) → column (v ∷ f.cells x) at ≡ Text (room_of x))
     → ((room : texts.Text) (r : Row) → IsRowOf f r → f.row_in (Null ∷ eval_all (columns_at 1 (length f.table.columns)) ((Text room ∷ []) ∷ r ∷ [])) ≡ f.row_in r)
     → ((room : texts.Text) (r : Row) → IsStoredAs f r → IsShownAs f (eval_all (columns_at 1 (length f.table.columns)) ((Text room ∷ []) ∷ r ∷ []))) → is_whole text 1 (understood our_schema text) ≡ true
     → ((room : texts.Text) → accepts_program our_schema [] (query_of f.table.tree (one_test at) (columns_at 1 (length f.table.columns))) (Text room ∷ []) ≡ true) → (room : texts.Text) → AsksFor f text (Text room ∷ []) (λ row. bytes_eq (room_of row) room)
-room_asks f facts text at room_of means cell same own whole accepts room =
+room_asks {f = f} facts text at room_of means cell same own whole accepts room =
     asks_for f facts text (one_test at) (Text room ∷ []) (λ row. bytes_eq (room_of row) room) means
     (λ r is. ap (λ v. equal Binary v (Text room) && true) (ap (λ y. column y at) is ∙ cell (f.row_in r) (Int (id_in (rowid r)))) ∙ and_true _ ∙ equal_text (room_of (f.row_in r)) room) (same room) (own room) whole (accepts room)
 
 -- for the row with an id, which is in these columns
-pub id_asks : {R : Type 0} (f : Form R Id) (facts : Facts our_schema f) (text : List ℕ) (at bt : ℕ) → MeansQuery text (asks f.table (id_tests at bt))
+pub id_asks : {R : Type 0} {f : Form R Id} (facts : Facts our_schema f) (text : List ℕ) (at bt : ℕ) → MeansQuery text (asks f.table (id_tests at bt))
     → ((x : R) (v : Value) → column (v ∷ f.cells x) at ≡ Int (pos (f.key x).server)) → ((x : R) (v : Value) → column (v ∷ f.cells x) bt ≡ Int (pos (f.key x).n))
     → ((id : Id) (r : Row) → IsRowOf f r → f.row_in (Null ∷ eval_all (columns_at 1 (length f.table.columns)) ((Int (pos id.server) ∷ Int (pos id.n) ∷ []) ∷ r ∷ [])) ≡ f.row_in r)
     → ((id : Id) (r : Row) → IsStoredAs f r → IsShownAs f (eval_all (columns_at 1 (length f.table.columns)) ((Int (pos id.server) ∷ Int (pos id.n) ∷ []) ∷ r ∷ []))) → is_whole text 2 (understood our_schema text) ≡ true
     → ((id : Id) → accepts_program our_schema [] (query_of f.table.tree (id_tests at bt) (columns_at 1 (length f.table.columns))) (Int (pos id.server) ∷ Int (pos id.n) ∷ []) ≡ true)
     → (id : Id) → AsksFor f text (Int (pos id.server) ∷ Int (pos id.n) ∷ []) (λ row. is_among (f.key row) (id ∷ []))
-id_asks f facts text at bt means server n same own whole accepts id =
+id_asks {f = f} facts text at bt means server n same own whole accepts id =
     asks_for f facts text (id_tests at bt) (Int (pos id.server) ∷ Int (pos id.n) ∷ []) (λ row. is_among (f.key row) (id ∷ [])) means
     (λ r is.
     let x = f.row_in r in

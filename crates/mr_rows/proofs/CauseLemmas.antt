@@ -34,7 +34,7 @@ use Rattle.mr_rows.specs.Causes.{IsOfStore, FailsByStoreWhere, FailsByStoreIn, F
 use Rattle.mr_rows.specs.CellLimits.{are_meta_cells}
 use Rattle.mr_rows.specs.Form.{Form}
 use Rattle.mr_rows.specs.Shown.{columns_from, IsShownAs, IsStoredAs, AreStoredAs}
-use Rattle.mr_rows.proofs.StatementMeaning.{program_of}
+use Rattle.mr_rows.specs.StatementMeaning.{program_of}
 use Rattle.mr_rows.proofs.RowLemmas.{filter_all_true}
 use Rattle.mr_rows.proofs.FormLemmas.{has_moved, shows}
 use Rattle.mr_rows.proofs.QueryLemmas.{clean_before}

@@ -22,7 +22,7 @@ use Rattle.mr_model.specs.Writes.{is_room_byte, is_room_name, is_title}
 use Rattle.mr_model.proofs.WordsReadBack.{date_facts}
 use Rattle.mr_rows.specs.RowLimits.{is_day_text, is_start_text}
 use Rattle.mr_rows.specs.CellLimits.{is_text}
-use Rattle.mr_rows.proofs.ShownRows.{text as text_cell}
+use Rattle.mr_rows.specs.ShownCells.{text as text_cell}
 
 -- ---- days
 

@@ -1,5 +1,5 @@
 -- The first row that a query shows is the one that the tables have.
-use Rattle.std.proofs.Common.{◌≡◌, ℕ, Bool, true, false, List, [], ◌∷◌, map, filter, inl, inr, Some, refl, sym, ◌∙◌}
+use Rattle.std.proofs.Common.{◌≡◌, ℕ, Bool, true, false, List, [], ◌∷◌, map, filter, inl, inr, Some, refl, sym, subst, ◌∙◌}
 use Rattle.std.specs.Prelude.{find, nat_lt}
 use Rattle.std.specs.List.Sorted.{IsPermutation}
 use Rattle.std.proofs.lemmas.List.Sorted.{IsPermutation-sym, Contains-permutation}
@@ -14,7 +14,8 @@ use Rattle.mr_model.proofs.Members.{has_filter, filter_has, find_none, find_one}
 use Rattle.mr_tables.specs.Change.{id_before, put_all}
 use Rattle.mr_tables.specs.TableOrders.{id_order, number_order}
 use Rattle.mr_tables.proofs.Putting.{OneAKey, one_a_key}
-use Rattle.mr_rows.specs.Database.{first_meta}
+use Rattle.mr_rows.specs.Form.{Form}
+use Rattle.mr_rows.specs.Database.{first_meta, in_order}
 use Rattle.mr_rows.specs.RowCells.{meta_in}
 use Rattle.mr_rows.specs.Reads.{first_of}
 use Rattle.mr_rows.proofs.SortedByKey.{ordered_in_order}
@@ -55,6 +56,11 @@ ids_apart key row_in stored = one_a_key id_before key id_order _ (ordered_in_ord
 pub first_found : {R : Type 0} (key : R → Id) (row_in : Row → R) (id : Id) (stored : List Row) (shown : List R) → IsPermutation (filter (λ r. is_among (key r) (id ∷ [])) (put_all id_before key (map row_in stored) [])) shown
     → first_of shown ≡ find (λ r. same_id (key r) id) (put_all id_before key (map row_in stored) [])
 first_found key row_in id stored shown = found key id _ shown (ids_apart key row_in stored)
+
+pub the_row : {R K : Type 0} (f : Form R K) (id_of : R → Id) → ((stored : List Row) → in_order f stored ≡ put_all id_before id_of (map f.row_in stored) []) → (id : Id) (stored : List Row) (shown : List R)
+    → IsPermutation (filter (λ r. is_among (id_of r) (id ∷ [])) (in_order f stored)) shown → first_of shown ≡ find (λ r. same_id (id_of r) id) (in_order f stored)
+the_row {R} f id_of by_id id stored shown =
+    subst (λ (rows : List R). IsPermutation (filter (λ r. is_among (id_of r) (id ∷ [])) rows) shown → first_of shown ≡ find (λ r. same_id (id_of r) id) rows) (sym (by_id stored)) (first_found id_of f.row_in id stored shown)
 
 -- ---- the row of `meta`
 

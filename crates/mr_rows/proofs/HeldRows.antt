@@ -15,9 +15,10 @@ use Rattle.mr_rows.specs.Database.{IsRowOf, IsHeld, AreHeld, first_meta, in_orde
 use Rattle.mr_rows.specs.Shown.{columns_from, IsStoredAs, AreOurRows}
 use Rattle.mr_rows.specs.TableLimits.{AreWithinLimits}
 use Rattle.mr_rows.proofs.SortedByKey.{has_ordered}
-use Rattle.mr_rows.proofs.TableLemmas.{Facts, plain_apart}
+use Rattle.mr_rows.proofs.TableLemmas.{plain_apart}
 use Rattle.mr_rows.proofs.TableFacts.{room_facts, vector_facts, log_facts, booking_facts, error_facts, cancelled_facts, cancel_facts}
 use Rattle.mr_rows.proofs.LimitsKept.{limits_kept}
+use Rattle.mr_rows.specs.Facts.{Facts}
 
 -- the cells of a plain row are the columns behind a rowid
 abbrev pub IsSpelled : {R K : Type 0} → Form R K → Type 0

@@ -1,4 +1,3 @@
-pub mod StatementMeaning
 pub mod RowLemmas
 pub mod FormLemmas
 pub mod SortedByKey
@@ -9,6 +8,8 @@ pub mod StepLemmas
 pub mod StatementLemmas
 pub mod CellLemmas
 pub mod ShownRows
+pub mod ColumnLemmas
+pub mod RowsReadBack
 pub mod ChoiceLemmas
 pub mod ChoiceTexts
 pub mod LimitsKept
@@ -16,6 +17,7 @@ pub mod QueryLemmas
 pub mod StreamedRows
 pub mod CauseLemmas
 pub mod SureTexts
+pub mod TableTexts
 pub mod AskedTexts
 pub mod FirstLemmas
 pub mod FoundLemmas

@@ -13,47 +13,13 @@ use Rattle.sqlite.specs.Source.TheVariants.{Values}
 use Rattle.sqlite.specs.declared.error.Error.{Error}
 use Rattle.sqlite.specs.Held.{Held, state}
 use Rattle.sqlite.specs.State.{State, HasCleanDisk, ExecutesInside, KeepsCommit}
-use Rattle.mr_model.specs.Calendar.{is_date}
-use Rattle.mr_model.specs.Replay.{Place, Taken, Logged, Done, Void}
-use Rattle.mr_model.specs.Tables.{ActionCells, OfMeeting, OfCancel, LogRow, BookingRow, ErrorRow, CancelledRow, taken_back, as_booked, CancelRow}
-use Rattle.mr_model.proofs.WordsReadBack.{date-text}
+use Rattle.mr_model.specs.Writes.{Id}
 use Rattle.mr_rows.specs.Schema.{our_schema, first_schema, IsOfTwo}
-use Rattle.mr_rows.specs.RowCells.{flag_number, nat_of, place_number, place_in}
-use Rattle.mr_rows.specs.Form.{Form, log_form, booking_form, error_form, cancelled_form, cancel_form}
-use Rattle.mr_rows.specs.TableSteps.{TurnsInto, PutsRow}
-use Rattle.mr_rows.proofs.StatementMeaning.{MeansIn, program_of, values_of, width_of}
-use Rattle.mr_rows.proofs.TableLemmas.{Facts, takes, puts}
-
--- ---- plain rows are read back off their cells
-
-marked : (c : Bool) → (nat_of (Int (flag_number c)) == 1) ≡ c
-marked true = refl
-marked false = refl
-
-pub placed : (p : Place) → place_in (place_number p) ≡ p
-placed (Taken k) = refl
-placed Logged = refl
-placed Done = refl
-placed Void = refl
-
-pub log_back : (v : Value) (w : LogRow) → log_form.row_in (v ∷ log_form.cells w) ≡ w
-log_back v w = go w.action
-  where
-    go : (a : ActionCells) → let x : LogRow = record w { action = a } in log_form.row_in (v ∷ log_form.cells x) ≡ x
-    go (OfMeeting m) = ap (λ p. record w { action = OfMeeting m; place = p }) (placed w.place)
-    go (OfCancel t) = ap (λ p. record w { action = OfCancel t; place = p }) (placed w.place)
-
-pub booking_back : (v : Value) (b : BookingRow) → IsTrue (is_date b.day) → booking_form.row_in (v ∷ booking_form.cells b) ≡ b
-booking_back v b is = let day = date-text b.day is in let c = marked b.committed in λ i. record b { day = day i; committed = c i }
-
-pub error_back : (v : Value) (e : ErrorRow) → IsTrue (is_date e.day) → error_form.row_in (v ∷ error_form.cells e) ≡ e
-error_back v e is = let day = date-text e.day is in λ i. record e { day = day i }
-
-pub cancelled_back : (v : Value) (c : CancelledRow) → IsTrue (is_date c.day) → cancelled_form.row_in (v ∷ cancelled_form.cells c) ≡ c
-cancelled_back v c is = ap (taken_back c.by) (booking_back v (as_booked c) is)
-
-pub cancel_back : (v : Value) (c : CancelRow) → cancel_form.row_in (v ∷ cancel_form.cells c) ≡ c
-cancel_back v c = ap (λ d. record c { done = d }) (marked c.done)
+use Rattle.mr_rows.specs.Form.{Form}
+use Rattle.mr_rows.specs.TableSteps.{TurnsInto, PutsRow, TakesRow}
+use Rattle.mr_rows.specs.StatementMeaning.{MeansIn, program_of, values_of, width_of}
+use Rattle.mr_rows.proofs.TableLemmas.{takes, puts}
+use Rattle.mr_rows.specs.Facts.{Facts, Puts, Takes}
 
 -- ---- a statement inside a transaction, whatever it does, commits nothing
 
@@ -72,19 +38,14 @@ keeps_any g old new sql params r inside after = elim (cases_Bool old.in_transact
 
 -- ---- a row put, and one taken away
 
--- under this schema the text puts rows of parameters into the table
-pub record Puts (under : Schema) {R K : Type 0} (f : Form R K) (text : List ℕ) : Type 1 where
-  pub facts : Facts under f
-  pub means : MeansIn under text (InsertOr facts.place Replace (Values (values_of f.table) (width_of f.table)) [])
-
 -- under ours alone, under the first alone, and under both
-pub under_ours : (P : Schema → Type 1) → P our_schema → (under : Schema) → under ≡ our_schema → P under
+pub under_ours : (P : Schema → Type 0) → P our_schema → (under : Schema) → under ≡ our_schema → P under
 under_ours P ours under is = subst P (sym is) ours
 
-pub under_first : (P : Schema → Type 1) → P first_schema → (under : Schema) → under ≡ first_schema → P under
+pub under_first : (P : Schema → Type 0) → P first_schema → (under : Schema) → under ≡ first_schema → P under
 under_first P first under is = subst P (sym is) first
 
-pub under_two : (P : Schema → Type 1) → P our_schema → P first_schema → (under : Schema) → IsOfTwo under → P under
+pub under_two : (P : Schema → Type 0) → P our_schema → P first_schema → (under : Schema) → IsOfTwo under → P under
 under_two P ours first under (inl is) = subst P (sym is) ours
 under_two P ours first under (inr is) = subst P (sym is) first
 
@@ -105,3 +66,10 @@ module _ {S : Type 0} (g : store.Ghosts S) {R K : Type 0} (f : Form R K) (old ne
     λ clean within schema held. takes f facts text (state g old) (state g new) k r means schema held (ran clean within),
     λ clean. keeps_any g old new text (facts.key_cells k) r (ran clean) after,
   )
+
+  -- one with an id
+  pub takes_id : (id_of : R → Id) (takes : Takes f id_of text) (id : Id) → (HasCleanDisk (state g new) → IsTrue old.in_transaction → ExecutesInside 0 text (takes.facts.key_cells (takes.key_of id)) (state g old) (state g new) r)
+      → (old.in_transaction ≡ false → new ≡ old) → TakesRow our_schema f id_of id (state g old) (state g new) r
+  takes_id id_of takes id ran after =
+      subst (λ (keeps : R → Bool). TurnsInto our_schema f (filter keeps) (state g old) (state g new) r × (HasCleanDisk (state g new) → KeepsCommit (state g old) (state g new))) (λ i x. not (takes.finds id x i))
+      (takes_row takes.facts (takes.key_of id) takes.means ran after)

@@ -19,9 +19,9 @@ use Rattle.sqlite.specs.Listing.{understood}
 use Rattle.sqlite.proofs.Callers.{command_of}
 use Rattle.mr_rows.specs.Meaning.{query_of, columns_at}
 use Rattle.mr_rows.specs.Schema.{our_schema, first_schema, IsOfTwo}
-use Rattle.mr_rows.specs.Form.{meta_form, room_form, vector_form, log_form, booking_form, error_form, cancelled_form, cancel_form}
+use Rattle.mr_rows.specs.Form.{meta_form}
 use Rattle.mr_rows.specs.Causes.{IsStopped, IsSureUnder, IsSureIn, IsSure, AsksAll}
-use Rattle.mr_rows.proofs.StatementMeaning.{MeansQueryIn, MeansQuery, program_of, names_of}
+use Rattle.mr_rows.specs.StatementMeaning.{MeansQueryIn, MeansQuery, program_of, names_of}
 
 -- the text is one statement, of so many parameters
 abbrev pub is_whole : List ℕ → ℕ → Result Compiled CompileError → Bool
@@ -68,34 +68,6 @@ of_two P ours first under (inr is) = subst P (sym is) first
 pub asks_meta : (under : Schema) → IsOfTwo under → AsksAll under 0 7 (codes "SELECT one, schema, server, prim, commits, dropped, clock FROM meta")
 unfolding understood everything
 asks_meta = of_two (λ s. AsksAll s 0 7 (codes "SELECT one, schema, server, prim, commits, dropped, clock FROM meta")) (asks_all 0 7 (λ db. refl) _ (names_of meta_form.table) ((refl, (refl, refl)), refl) refl refl) (asks_all 0 7 (λ db. refl) _ (names_of meta_form.table) ((refl, (refl, refl)), refl) refl refl)
-
-pub asks_room : (under : Schema) → IsOfTwo under → AsksAll under 2 1 (codes "SELECT name FROM room")
-unfolding understood everything
-asks_room = of_two (λ s. AsksAll s 2 1 (codes "SELECT name FROM room")) (asks_all 2 1 (λ db. refl) _ (names_of room_form.table) ((refl, (refl, refl)), refl) refl refl) (asks_all 2 1 (λ db. refl) _ (names_of room_form.table) ((refl, (refl, refl)), refl) refl refl)
-
-pub asks_vector : (under : Schema) → IsOfTwo under → AsksAll under 4 4 (codes "SELECT server, n, tm, committed FROM vector")
-unfolding understood everything
-asks_vector = of_two (λ s. AsksAll s 4 4 (codes "SELECT server, n, tm, committed FROM vector")) (asks_all 4 4 (λ db. refl) _ (names_of vector_form.table) ((refl, (refl, refl)), refl) refl refl) (asks_all 4 4 (λ db. refl) _ (names_of vector_form.table) ((refl, (refl, refl)), refl) refl refl)
-
-pub asks_booking : (under : Schema) → IsOfTwo under → AsksAll under 10 8 (codes "SELECT room, day, start, stop, server, n, title, committed FROM booking")
-unfolding understood everything
-asks_booking = of_two (λ s. AsksAll s 10 8 (codes "SELECT room, day, start, stop, server, n, title, committed FROM booking")) (asks_all 10 8 (λ db. refl) _ (names_of booking_form.table) ((refl, (refl, refl)), refl) refl refl) (asks_all 10 8 (λ db. refl) _ (names_of booking_form.table) ((refl, (refl, refl)), refl) refl refl)
-
-pub asks_error : (under : Schema) → IsOfTwo under → AsksAll under 12 9 (codes "SELECT room, day, start, stop, server, n, title, tm, seq FROM errorlog")
-unfolding understood everything
-asks_error = of_two (λ s. AsksAll s 12 9 (codes "SELECT room, day, start, stop, server, n, title, tm, seq FROM errorlog")) (asks_all 12 9 (λ db. refl) _ (names_of error_form.table) ((refl, (refl, refl)), refl) refl refl) (asks_all 12 9 (λ db. refl) _ (names_of error_form.table) ((refl, (refl, refl)), refl) refl refl)
-
-pub asks_log : (under : Schema) → under ≡ our_schema → AsksAll under 14 12 (codes "SELECT server, n, tm, room, kind, length, choices, title, tserver, tn, place, seq FROM log")
-unfolding understood everything
-asks_log = λ under is. subst (λ s. AsksAll s 14 12 (codes "SELECT server, n, tm, room, kind, length, choices, title, tserver, tn, place, seq FROM log")) (sym is) (asks_all 14 12 (λ db. refl) _ (names_of log_form.table) ((refl, (refl, refl)), refl) refl refl)
-
-pub asks_cancelled : (under : Schema) → under ≡ our_schema → AsksAll under 16 10 (codes "SELECT room, day, start, stop, server, n, title, committed, bserver, bn FROM cancelled")
-unfolding understood everything
-asks_cancelled = λ under is. subst (λ s. AsksAll s 16 10 (codes "SELECT room, day, start, stop, server, n, title, committed, bserver, bn FROM cancelled")) (sym is) (asks_all 16 10 (λ db. refl) _ (names_of cancelled_form.table) ((refl, (refl, refl)), refl) refl refl)
-
-pub asks_cancel : (under : Schema) → under ≡ our_schema → AsksAll under 18 8 (codes "SELECT server, n, room, tserver, tn, done, tm, seq FROM cancel")
-unfolding understood everything
-asks_cancel = λ under is. subst (λ s. AsksAll s 18 8 (codes "SELECT server, n, room, tserver, tn, done, tm, seq FROM cancel")) (sym is) (asks_all 18 8 (λ db. refl) _ (names_of cancel_form.table) ((refl, (refl, refl)), refl) refl refl)
 
 -- those of the first schema's logs, which have no rows in ours
 pub asks_write_log : (under : Schema) → under ≡ our_schema → AsksAll under 6 1 (codes "SELECT server FROM write_log")

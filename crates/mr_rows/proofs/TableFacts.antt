@@ -10,9 +10,10 @@ use Rattle.mr_model.specs.Tables.{ActionCells, OfMeeting, OfCancel, LogRow}
 use Rattle.mr_tables.specs.TableOrders.{id_order, number_order, name_order}
 use Rattle.mr_rows.specs.Schema.{our_schema, first_schema}
 use Rattle.mr_rows.specs.Form.{meta_form_of, room_form, vector_form, log_form, booking_form, error_form, cancelled_form, cancel_form}
-use Rattle.mr_rows.proofs.StatementMeaning.{values_of, width_of}
-use Rattle.mr_rows.proofs.ValueLemmas.{equal_nat, equal_text, are_plain}
-use Rattle.mr_rows.proofs.TableLemmas.{Facts, facts_by_one, facts_by_id}
+use Rattle.mr_rows.specs.StatementMeaning.{values_of, width_of}
+use Rattle.mr_rows.proofs.ValueLemmas.{equal_nat, equal_text}
+use Rattle.mr_rows.proofs.TableLemmas.{facts_by_one, facts_by_id}
+use Rattle.mr_rows.specs.Facts.{Facts, are_plain}
 
 -- ---- tables with a key of one column
 

@@ -43,32 +43,12 @@ use Rattle.mr_rows.specs.Meaning.{passes}
 use Rattle.mr_rows.specs.Form.{Form}
 use Rattle.mr_rows.specs.Database.{IsRowOf, IsHeld, in_order}
 use Rattle.mr_rows.specs.TableSteps.{overlaid, Turns}
-use Rattle.mr_rows.proofs.StatementMeaning.{MeansIn, MeansQueryIn, program_of, one_test, id_tests, values_of, width_of}
-use Rattle.mr_rows.proofs.ValueLemmas.{equal_apart, and_true, id_test, among_one, one_among, clash_one, clash_two, cast_null, cast_int, are_plain, casts_plain, mends_plain}
+use Rattle.mr_rows.specs.StatementMeaning.{MeansIn, MeansQueryIn, program_of, one_test, id_tests, values_of, width_of}
+use Rattle.mr_rows.proofs.ValueLemmas.{equal_apart, and_true, id_test, among_one, one_among, clash_one, clash_two, cast_null, cast_int, casts_plain, mends_plain}
 use Rattle.mr_rows.proofs.RowLemmas.{shelf_filter, shelf_push, next_above, ascending_push}
 use Rattle.mr_rows.proofs.FormLemmas.{deletes, upserts, shows, Leaves}
 use Rattle.mr_rows.proofs.SortedByKey.{Apart, ordered-filter, ordered-put, ordered_same}
-
--- What is computed of a table under a schema: how a statement finds the rows of a key, and how it makes a row of parameters.
-pub record Facts (under : Schema) {R K : Type 0} (f : Form R K) : Type 1 where
-  pub order : IsOrder K f.before
-  -- its place in the schema
-  pub place : ℕ
-  pub stands : slice_get under.tables place ≡ Some f.table
-  -- a key as parameters, the tests that find its rows, and what they say of plain rows
-  pub key_cells : K → Row
-  pub key_tests : List Term
-  pub has_key : K → R → Bool
-  pub finds : (k : K) (r : Row) → IsRowOf f r → passes key_tests (key_cells k) r ≡ has_key k (f.row_in r)
-  pub same_key : (k : K) (x : R) → has_key k x ≡ true → f.key x ≡ k
-  pub own_key : (x y : R) → f.key y ≡ f.key x → has_key (f.key x) y ≡ true
-  -- the values of a new row
-  pub given : (x : R) → value_rows (stamped f.table (f.cells x)) (width_of f.table) (length (values_of f.table) / width_of f.table) (values_of f.table) ≡ (Null ∷ f.cells x) ∷ []
-  pub plain : (x : R) → are_plain f.table.columns (f.cells x) ≡ true
-  pub clashes : (x : R) (id : ℤ) (r : Row) → value_cmp (rowid r) (Int id) ≡ Less → conflicts None under.indexes f.table (Int id ∷ f.cells x) r ≡ passes key_tests (key_cells (f.key x)) r
-  pub alone : (db : Trees) → overlay db [] f.table.tree ≡ db f.table.tree
-  pub uncounted : f.table.is_counted ≡ false
-  pub free : (taken news : List Row) → works under Enforced 0 f.table.tree taken news ≡ []
+use Rattle.mr_rows.specs.Facts.{Facts, are_plain}
 
 -- ---- keys
 

@@ -21,6 +21,7 @@ use Rattle.sqlite.specs.Kind.TheVariants as kind
 use Rattle.mr_model.specs.Writes.{Id}
 use Rattle.mr_model.specs.Replica.{is_among}
 use Rattle.mr_model.proofs.Members.{among_has, has_among}
+use Rattle.mr_rows.specs.Facts.{is_plain, are_plain}
 -- ---- equality
 
 pub use Rattle.std.proofs.Math.Bool.{and-true as and_true, or-false as or_false}
@@ -84,15 +85,6 @@ unfolding unary
 cast_int n = either _ (Int n)
 
 -- ---- rows whose cells are of the kinds of their columns
-
-abbrev pub is_plain : Kind → Value → Bool
-is_plain Integer (Int n) = true
-is_plain kind.Text (Text t) = true
-is_plain _ _ = false
-
-abbrev pub are_plain : List Column → Row → Bool
-are_plain (c ∷ cs) (v ∷ vs) = is_plain c.kind v && are_plain cs vs
-are_plain _ _ = true
 
 cast_plain : (k : Kind) (v : Value) → is_plain k v ≡ true → cast k v ≡ v
 cast_plain Integer (Int n) is = cast_int n

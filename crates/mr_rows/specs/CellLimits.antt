@@ -5,9 +5,9 @@ use Rattle.sqlite_value.specs.declared.value.Value.TheVariants.{Null, Int, Real,
 use Rattle.sqlite_value.specs.Order.{Row, column}
 use Rattle.mr_model.specs.Texts as texts
 use Rattle.mr_model.specs.Texts.{within}
-use Rattle.mr_model.specs.Writes.{is_room_name, is_title, greatest_alternatives, greatest_count, greatest_time}
+use Rattle.mr_model.specs.Writes.{is_title, greatest_alternatives, greatest_count, greatest_time}
 use Rattle.mr_rows.specs.RowCells.{nat_of}
-use Rattle.mr_rows.specs.RowLimits.{is_day_text, is_choices}
+use Rattle.mr_rows.specs.RowLimits.{is_choices}
 
 -- ---- values
 
@@ -67,54 +67,26 @@ is_place_cell cancels (Real x) = false
 is_place_cell cancels (Text t) = false
 is_place_cell cancels (Blob b) = false
 
--- ---- rows as queries show them
+-- ---- cells beside each other
 
--- the cells that rows of `booking`, `errorlog` and `cancelled` begin with
-abbrev pub are_slot_cells : Row → Bool
-are_slot_cells r =
-    is_text is_room_name (column r 0) && is_text is_day_text (column r 1) && is_span_cells (column r 2) (column r 3)
-    && is_id_cells (column r 4) (column r 5) && is_text is_title (column r 6)
+-- a booking's length, choices and title
+abbrev pub are_meeting_cells : Value → Value → Value → Bool
+are_meeting_cells length choices title = is_number 1 1440 length && is_text (is_choices (nat_of length)) choices && is_text is_title title
 
+-- What a row of `log` has of a write that books, and of one that cancels: its kind, its meeting, its target and its place. What it hasn't is 0 or an empty text.
 abbrev pub are_booking_cells : Row → Bool
-are_booking_cells r = are_slot_cells r && is_mark_cell (column r 7)
-
-abbrev pub are_error_cells : Row → Bool
-are_error_cells r = are_slot_cells r && is_time_cell (column r 7) && is_commit_cell (column r 8)
-
-abbrev pub are_cancelled_cells : Row → Bool
-are_cancelled_cells r = are_booking_cells r && is_id_cells (column r 8) (column r 9)
+are_booking_cells r =
+    are_meeting_cells (column r 1) (column r 2) (column r 3) && (is_number 0 0 (column r 4) && is_number 0 0 (column r 5)) && is_place_cell false (column r 6)
 
 abbrev pub are_cancel_cells : Row → Bool
 are_cancel_cells r =
-    is_id_cells (column r 0) (column r 1) && is_text is_room_name (column r 2) && is_id_cells (column r 3) (column r 4)
-    && is_mark_cell (column r 5) && is_time_cell (column r 6) && is_commit_cell (column r 7)
+    is_number 1 1 (column r 0) && (is_number 0 0 (column r 1) && is_text is_empty_text (column r 2) && is_text is_empty_text (column r 3))
+    && is_id_cells (column r 4) (column r 5) && is_place_cell true (column r 6)
 
-abbrev pub are_vector_cells : Row → Bool
-are_vector_cells r =
-    is_id_cells (column r 0) (column r 1) && is_time_cell (column r 2) && is_number 0 greatest_count (column r 3)
+abbrev pub are_logged_cells : Row → Bool
+are_logged_cells r = if is_number 0 0 (column r 0) then are_booking_cells r else are_cancel_cells r
 
--- what a row of `log` has of a write that books, and of one that cancels
-abbrev pub are_meeting_cells : Row → Bool
-are_meeting_cells r =
-    is_number 1 1440 (column r 5) && is_text (is_choices (nat_of (column r 5))) (column r 6) && is_text is_title (column r 7)
-    && (is_number 0 0 (column r 8) && is_number 0 0 (column r 9))
-
-abbrev pub are_target_cells : Row → Bool
-are_target_cells r =
-    is_number 1 1 (column r 4) && (is_number 0 0 (column r 5) && is_text is_empty_text (column r 6) && is_text is_empty_text (column r 7))
-    && is_id_cells (column r 8) (column r 9)
-
-abbrev pub are_action_cells : Row → Bool
-are_action_cells r =
-    if is_number 0 0 (column r 4) then are_meeting_cells r && is_place_cell false (column r 10)
-    else are_target_cells r && is_place_cell true (column r 10)
-
-abbrev pub are_log_cells : Row → Bool
-are_log_cells r =
-    is_id_cells (column r 0) (column r 1) && is_time_cell (column r 2) && is_text is_room_name (column r 3) && are_action_cells r
-    && is_commit_cell (column r 11)
-
--- (under the schema of this number)
+-- a row of `meta` as a query shows it, under the schema of this number
 abbrev pub are_meta_cells : ℕ → Row → Bool
 are_meta_cells schema r =
     is_number 1 1 (column r 0) && is_number schema schema (column r 1) && is_server_cell (column r 2) && is_server_cell (column r 3)

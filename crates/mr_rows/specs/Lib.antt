@@ -1,4 +1,4 @@
--- A reader of the contracts trusts Schema, Meaning, Shelf, RowCells, RowLimits, CellLimits, TableLimits, Form, Database, Reads, Causes, RowsAsked, Shown, Kept, ChangeParts, TableSteps and OurTables.
+-- A reader of the contracts trusts Schema, Meaning, Shelf, RowCells, RowLimits, CellLimits, TableLimits, Columns, Form, Database, Reads, Causes, RowsAsked, Shown, Kept, ChangeParts, TableSteps and OurTables.
 pub mod Schema
 pub mod Meaning
 pub mod Shelf
@@ -7,8 +7,10 @@ pub mod RowLimits
 pub mod CellLimits
 pub mod TableLimits
 pub mod Form
+pub mod Columns
 pub mod Database
 pub mod Shown
+pub mod MadeRows
 pub mod Kept
 pub mod ChangeParts
 pub mod Reads
@@ -16,3 +18,7 @@ pub mod Causes
 pub mod RowsAsked
 pub mod TableSteps
 pub mod OurTables
+pub mod StatementMeaning
+pub mod Facts
+pub mod ShownCells
+pub mod ColumnLaws

@@ -8,7 +8,7 @@ ghost use Rattle.sqlite.specs.Held.{state};
 ghost use Rattle.mr_model.specs.Texts.{Text as Name};
 ghost use Rattle.mr_model.specs.Writes.{Id, same_id};
 ghost use Rattle.mr_model.specs.Replica.{is_among};
-ghost use Rattle.mr_model.specs.Queries.{booking_id, error_id, cancelled_id, cancel_id};
+ghost use Rattle.mr_tables.specs.Change.{id_before, put_all};
 ghost use Rattle.mr_rows.specs.Database.{IsHeld, in_order};
 ghost use Rattle.mr_rows.specs.Shown.{IsShownAs, AreStoredAs};
 ghost use Rattle.mr_rows.specs.Reads.{Looks, first_of};
@@ -18,10 +18,16 @@ ghost use Rattle.mr_rows.specs.RowsAsked.{AreChosen, AsksFor};
 use crate::idle::Idle;
 use crate::stored_rows::{StoredRow, read_all};
 use mr_base::{RoomName, WriteId};
-use mr_tables::{BookingRow, CancelRow, CancelledRow, ErrorRow};
 use sqlite::types::ValueRef;
 use sqlite::{Alter, Error, ErrorCode, Row, params};
 use std::alloc::Global;
+
+/// The texts that ask for the rows of a room, and for the row with an id.
+#[derive(Clone, Copy, Debug)]
+pub struct AskedTexts {
+    pub of_room: &'static str,
+    pub of_id: &'static str,
+}
 
 /// A row that is asked for by the room or the id of its write.
 pub trait AskedRow: StoredRow {
@@ -29,71 +35,13 @@ pub trait AskedRow: StoredRow {
 
     ghost id_of: { Self → Id };
 
-    /// The text that asks for the rows of a room.
-    fn of_room() -> &'static str
-        ensures { (room : Name) → AsksFor Self.form result.now (Text room ∷ []) (λ row. bytes_eq (room_of row) room) };
+    /// What is asked.
+    fn asked() -> AskedTexts
+        ensures room { (room : Name) → AsksFor Self.form result.of_room.now (Text room ∷ []) (λ row. bytes_eq (room_of row) room) }
+        ensures id { (id : Id) → AsksFor Self.form result.of_id.now (Int (pos id.server) ∷ Int (pos id.n) ∷ []) (λ row. is_among (id_of row) (id ∷ [])) };
 
-    /// The text that asks for the row with an id, of which there is one.
-    fn of_id() -> &'static str
-        ensures asks { (id : Id) → AsksFor Self.form result.now (Int (pos id.server) ∷ Int (pos id.n) ∷ []) (λ row. is_among (id_of row) (id ∷ [])) }
-        ensures one { (id : Id) (stored : List Cells) (shown : List Self) → IsPermutation (filter (λ row. is_among (id_of row) (id ∷ [])) (in_order Self.form stored)) shown
-            → first_of shown ≡ find (λ row. same_id (id_of row) id) (in_order Self.form stored) };
-}
-
-impl AskedRow for BookingRow {
-    ghost room_of = { λ row. row.room };
-
-    ghost id_of = { booking_id };
-
-    fn of_room() -> &'static str {
-        "SELECT room, day, start, stop, server, n, title, committed FROM booking WHERE room = ?1"
-    }
-
-    fn of_id() -> &'static str {
-        "SELECT room, day, start, stop, server, n, title, committed FROM booking WHERE server = ?1 AND n = ?2"
-    }
-}
-
-impl AskedRow for ErrorRow {
-    ghost room_of = { λ row. row.room };
-
-    ghost id_of = { error_id };
-
-    fn of_room() -> &'static str {
-        "SELECT room, day, start, stop, server, n, title, tm, seq FROM errorlog WHERE room = ?1"
-    }
-
-    fn of_id() -> &'static str {
-        "SELECT room, day, start, stop, server, n, title, tm, seq FROM errorlog WHERE server = ?1 AND n = ?2"
-    }
-}
-
-impl AskedRow for CancelledRow {
-    ghost room_of = { λ row. row.room };
-
-    ghost id_of = { cancelled_id };
-
-    fn of_room() -> &'static str {
-        "SELECT room, day, start, stop, server, n, title, committed, bserver, bn FROM cancelled WHERE room = ?1"
-    }
-
-    fn of_id() -> &'static str {
-        "SELECT room, day, start, stop, server, n, title, committed, bserver, bn FROM cancelled WHERE server = ?1 AND n = ?2"
-    }
-}
-
-impl AskedRow for CancelRow {
-    ghost room_of = { λ row. row.room };
-
-    ghost id_of = { cancel_id };
-
-    fn of_room() -> &'static str {
-        "SELECT server, n, room, tserver, tn, done, tm, seq FROM cancel WHERE room = ?1"
-    }
-
-    fn of_id() -> &'static str {
-        "SELECT server, n, room, tserver, tn, done, tm, seq FROM cancel WHERE server = ?1 AND n = ?2"
-    }
+    // the rows stand by their ids
+    ghost by_id: { (stored : List Cells) → in_order Self.form stored ≡ put_all id_before id_of (map Self.form.row_in stored) [] };
 }
 
 /// The rows that a text shows which asks for some rows of a table.
@@ -121,7 +69,7 @@ pub fn rows_in<R: AskedRow, S: Alter>(
         → IsPermutation (filter (λ row. bytes_eq (R.room_of row) room.now) (in_order R.form ((state S.Store conn.old).now.trees R.form.table.tree))) rows.items) }
     ensures cause { FailsByStore (AreStoredAs R.form) (state S.Store conn.old) (state S.Store conn.new) result }
 {
-    let rows = ask_for::<R, S>(conn, R::of_room(), params![room.as_str()])?;
+    let rows = ask_for::<R, S>(conn, R::asked().of_room, params![room.as_str()])?;
     read_all(alloc, &rows)
 }
 
@@ -146,7 +94,7 @@ pub fn row_of<R: AskedRow, S: Alter>(
         → row ≡ find (λ r. same_id (R.id_of r) id) (in_order R.form ((state S.Store conn.old).now.trees R.form.table.tree))) }
     ensures cause { FailsByStore (AreStoredAs R.form) (state S.Store conn.old) (state S.Store conn.new) result }
 {
-    let rows = ask_for::<R, S>(conn, R::of_id(), params![id.server.number(), id.n])?;
+    let rows = ask_for::<R, S>(conn, R::asked().of_id, params![id.server.number(), id.n])?;
     first_row(alloc, &rows)
 }
 

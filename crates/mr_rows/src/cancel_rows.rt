@@ -1,24 +1,17 @@
-ghost use Rattle.std.specs.Prelude.{◌≡◌, ◌≢◌, ◌∷◌, false, IfOk, IfErr, IsTrue, refl};
-ghost use Rattle.sqlite_value.specs.declared.value.Value.TheVariants.{Null};
+ghost use Rattle.std.specs.Prelude.{◌≡◌, refl};
 ghost use Rattle.mr_model.specs.Writes.{Id};
+ghost use Rattle.mr_model.specs.Queries.{cancel_id};
 ghost use Rattle.mr_tables.specs.TableOrders.{id_order};
 ghost use Rattle.mr_rows.specs.Schema.{our_schema};
-ghost use Rattle.mr_rows.specs.RowCells.{cancel_row_from};
-ghost use Rattle.mr_rows.specs.CellLimits.{are_cancel_cells};
+ghost use Rattle.mr_rows.specs.MadeRows.{cancel_of, cancel_made};
 ghost use Rattle.mr_rows.specs.Form.{cancel_form};
 ghost use Rattle.mr_rows.specs.OurTables.{cancel_is};
 
-use crate::cells::{
-    has_commit, has_id, has_mark, has_name, has_time, passes, read_commit, read_id, read_mark,
-    read_name, read_time,
-};
-use crate::numbers::Number;
-use crate::stored_rows::{OurRow, StoredRow};
+use crate::asked_rows::{AskedRow, AskedTexts};
+use crate::columns::{Commit, Time, Within};
+use crate::stored_rows::{OurRow, RowTexts, StoredRow};
+use mr_base::{RoomName, WriteId};
 use mr_tables::CancelRow;
-use sqlite::{Alter, Error, ErrorCode, Row, Transaction, params};
-use std::alloc::Global;
-
-// The columns are counted from 0, in the order of the table.
 
 impl StoredRow for CancelRow {
     ghost Key = { Id };
@@ -27,38 +20,36 @@ impl StoredRow for CancelRow {
 
     ghost stands_in = { λ under. under ≡ our_schema };
 
-    fn all() -> &'static str {
-        "SELECT server, n, room, tserver, tn, done, tm, seq FROM cancel"
+    type Parts = (((((WriteId, RoomName), WriteId), bool), Time), Commit);
+
+    ghost of = { cancel_of };
+
+    fn texts() -> RowTexts {
+        RowTexts {
+            all: "SELECT server, n, room, tserver, tn, done, tm, seq FROM cancel",
+            put: "INSERT OR REPLACE INTO cancel (server, n, room, tserver, tn, done, tm, seq) VALUES (?1, ?2, ?3, ?4, ?5, ?6, ?7, ?8)",
+        }
     }
 
-    fn read(alloc: Global, row: &Row) -> Result<CancelRow, Error> {
-        read_cancel(alloc, row)
+    fn of(parts: Self::Parts) -> CancelRow {
+        let (((((id, room), target), done), time), seq) = parts;
+        CancelRow {
+            server: id.server,
+            n: id.n,
+            room,
+            target,
+            done,
+            time: time.0,
+            seq: seq.0,
+        }
     }
 
-    fn test(row: &Row) -> Result<(), Error> {
-        passes(has_cancel(row))
+    fn parts(self) -> Self::Parts {
+        let key = ((self.id(), self.room), self.target);
+        (((key, self.done), Within(self.time)), Within(self.seq))
     }
 
-    fn put<S: Alter>(&self, tx: &mut Transaction<'_, S>, _alloc: Global) -> Result<usize, Error> {
-        let time = Number::new(self.time, 6)?;
-        let seq = Number::new(self.seq, 7)?;
-        let target = self.target;
-        tx.execute(
-            "INSERT OR REPLACE INTO cancel (server, n, room, tserver, tn, done, tm, seq) VALUES (?1, ?2, ?3, ?4, ?5, ?6, ?7, ?8)",
-            params![
-                self.server.number(),
-                self.n,
-                self.room.as_str(),
-                target.server.number(),
-                target.n,
-                self.done,
-                time,
-                seq
-            ],
-        )
-    }
-
-    ghost shown_as = { λ r. refl };
+    ghost made = { cancel_made };
 
     ghost order = { id_order };
 
@@ -75,35 +66,17 @@ impl OurRow for CancelRow {
     ghost stands = { refl };
 }
 
-fn read_cancel(alloc: Global, row: &Row) -> Result<CancelRow, Error>
-    ensures row { IfOk result (λ r. r ≡ cancel_row_from (Null ∷ row.now)) }
-    ensures told { IfOk result (λ _. IsTrue (are_cancel_cells row.now)) }
-    ensures refused { IfErr result (λ e. e ≢ Error.SqliteFailure ErrorCode.OutOfMemory → are_cancel_cells row.now ≡ false) }
-{
-    let id = read_id(row, 0)?;
-    let room = read_name(alloc, row, 2)?;
-    let target = read_id(row, 3)?;
-    let done = read_mark(row, 5)?;
-    let time = read_time(row, 6)?;
-    let seq = read_commit(row, 7)?;
-    Ok(CancelRow {
-        server: id.server,
-        n: id.n,
-        room,
-        target,
-        done,
-        time,
-        seq,
-    })
-}
+impl AskedRow for CancelRow {
+    ghost room_of = { λ row. row.room };
 
-fn has_cancel(row: &Row) -> bool
-    ensures { result ≡ are_cancel_cells row.now }
-{
-    has_id(row, 0)
-        && has_name(row, 2)
-        && has_id(row, 3)
-        && has_mark(row, 5)
-        && has_time(row, 6)
-        && has_commit(row, 7)
+    ghost id_of = { cancel_id };
+
+    fn asked() -> AskedTexts {
+        AskedTexts {
+            of_room: "SELECT server, n, room, tserver, tn, done, tm, seq FROM cancel WHERE room = ?1",
+            of_id: "SELECT server, n, room, tserver, tn, done, tm, seq FROM cancel WHERE server = ?1 AND n = ?2",
+        }
+    }
+
+    ghost by_id = { λ stored. refl };
 }

@@ -4,15 +4,15 @@ ghost use Rattle.sqlite_value.specs.declared.value.Value.TheVariants.{Int, Text}
 ghost use Rattle.sqlite_value.specs.Order.{column, bytes};
 ghost use Rattle.mr_model.specs.Texts.{within};
 ghost use Rattle.mr_model.specs.Calendar.{is_date, date_in, date_text};
-ghost use Rattle.mr_model.specs.Writes.{is_server, is_count, is_id, is_time, is_room_name, is_title};
+ghost use Rattle.mr_model.specs.Writes.{is_server, is_count, is_id, is_room_name, is_title};
 ghost use Rattle.mr_replay.specs.Places.{place_seen};
 ghost use Rattle.mr_rows.specs.RowCells.{flag_number, nat_of, whole_of, place_in, place_number};
 ghost use Rattle.mr_rows.specs.RowLimits.{is_small, is_place, is_day_text};
-ghost use Rattle.mr_rows.specs.CellLimits.{is_number, is_text, is_server_cell, is_count_cell, is_time_cell, is_commit_cell, is_mark_cell, is_id_cells, is_place_cell};
+ghost use Rattle.mr_rows.specs.CellLimits.{is_number, is_text, is_server_cell, is_count_cell, is_commit_cell, is_mark_cell, is_id_cells, is_place_cell};
 
 use mr_base::{
-    Day, GREATEST_COMMIT, GREATEST_COUNT, GREATEST_SERVER, GREATEST_TIME, Refusal, RoomName,
-    ServerId, Title, WriteId, is_room_text, is_title_text,
+    Day, GREATEST_COMMIT, GREATEST_COUNT, GREATEST_SERVER, Refusal, RoomName, ServerId, Title,
+    WriteId, is_room_text, is_title_text,
 };
 use mr_replay::Place;
 use sqlite::types::{Type, ValueRef};
@@ -204,23 +204,6 @@ pub(crate) fn has_count(row: &Row, at: usize) -> bool
     has_number(row, at, 1, u64::from(GREATEST_COUNT))
 }
 
-/// The time of a write in this column.
-pub fn read_time(row: &Row, at: usize) -> Result<u64, Error>
-    ensures time { IfOk result (λ time. time ≡ nat_of (column row.now at)) }
-    ensures cell { IfOk result (λ time. column row.now at ≡ Int (pos time)) }
-    ensures within { IfOk result (λ time. IsTrue (is_time time)) }
-    ensures refused { IfErr result (λ _. is_time_cell (column row.now at) ≡ false) }
-{
-    read_number(row, at, 1, GREATEST_TIME)
-}
-
-/// Whether this column has the time of a write.
-pub fn has_time(row: &Row, at: usize) -> bool
-    ensures { result ≡ is_time_cell (column row.now at) }
-{
-    has_number(row, at, 1, GREATEST_TIME)
-}
-
 /// The number of a commit in this column, or how many there are; 0 if there is none.
 pub fn read_commit(row: &Row, at: usize) -> Result<u64, Error>
     ensures number { IfOk result (λ number. number ≡ nat_of (column row.now at)) }
@@ -229,13 +212,6 @@ pub fn read_commit(row: &Row, at: usize) -> Result<u64, Error>
     ensures refused { IfErr result (λ _. is_commit_cell (column row.now at) ≡ false) }
 {
     read_number(row, at, 0, GREATEST_COMMIT)
-}
-
-/// Whether this column has the number of a commit, or 0.
-pub fn has_commit(row: &Row, at: usize) -> bool
-    ensures { result ≡ is_commit_cell (column row.now at) }
-{
-    has_number(row, at, 0, GREATEST_COMMIT)
 }
 
 /// The id in this column and the next.

@@ -91,7 +91,7 @@ impl<R: StoredRow> FoundRows for Vec<R> {
     ghost are_all = { λ trees rows. AreRowsOf R.form trees rows.items };
 
     fn find<S: Alter>(conn: &mut Idle<S>, alloc: Global, keep: bool) -> Result<Vec<R>, Error> {
-        let mut rows = take_rows::<R, S>(conn, alloc, R::all(), keep)?;
+        let mut rows = take_rows::<R, S>(conn, alloc, R::texts().all, keep)?;
         sort_rows(&mut rows)?;
         Ok(rows)
     }

@@ -12,6 +12,7 @@ mod cancel_rows;
 pub mod cells;
 pub mod changes;
 pub mod choices;
+pub mod columns;
 pub mod found;
 mod idle;
 mod log_rows;
@@ -19,15 +20,15 @@ pub mod meta_row;
 pub mod meta_table;
 pub mod numbers;
 mod order;
+mod params_of;
 pub mod puts;
 pub mod queries;
-mod slot_cells;
 mod slot_rows;
 mod stored_rows;
 mod table_rows;
 
 pub use idle::Idle;
-pub use stored_rows::{OurRow, StoredRow, read_all};
+pub use stored_rows::{OurRow, RowTexts, StoredRow, read_all};
 
 /// The rows of a replica's tables are within the limits for which each row is tested, so that none is refused.
 pub fn limits_law()

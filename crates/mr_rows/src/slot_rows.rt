@@ -5,35 +5,17 @@ ghost use Rattle.mr_model.specs.Queries.{booking_id, error_id, cancelled_id};
 ghost use Rattle.mr_tables.specs.TableOrders.{id_order};
 ghost use Rattle.mr_rows.specs.Schema.{our_schema, IsOfTwo};
 ghost use Rattle.mr_rows.specs.Form.{booking_form, error_form, cancelled_form};
+ghost use Rattle.mr_rows.specs.MadeRows.{booking_of, error_of, cancelled_of, booking_made, error_made, cancelled_made};
 ghost use Rattle.mr_rows.specs.OurTables.{booking_is, error_is, cancelled_is};
 
-use crate::cells::passes;
-use crate::numbers::Number;
-use crate::puts::day_text;
-use crate::slot_cells::{
-    has_booking, has_cancelled, has_error, read_booking, read_cancelled, read_error,
-};
-use crate::stored_rows::{OurRow, RequestRow, StoredRow};
-use mr_base::WriteId;
+use crate::asked_rows::{AskedRow, AskedTexts};
+use crate::columns::{Commit, Span, Time, Within};
+use crate::stored_rows::{OurRow, RequestRow, RowTexts, StoredRow};
+use mr_base::{Day, RoomName, Title, WriteId};
 use mr_tables::{BookingRow, CancelledRow, ErrorRow};
-use sqlite::{Alter, Error, Row, Transaction, params};
-use std::alloc::Global;
 
-/// The parameters of a row that begins with a slot: those of the seven columns of the slot, and then more.
-macro_rules! slot_params {
-    ($row:expr, $day:expr, $($more:expr),*) => {
-        params![
-            $row.room.as_str(),
-            $day.as_str(),
-            $row.start,
-            $row.stop,
-            $row.server.number(),
-            $row.n,
-            $row.title.as_str(),
-            $($more),*
-        ]
-    };
-}
+/// The values of the columns that `booking`, `errorlog` and `cancelled` begin with.
+type SlotParts = ((((RoomName, Day), Span), WriteId), Title);
 
 impl StoredRow for BookingRow {
     ghost Key = { Id };
@@ -42,27 +24,42 @@ impl StoredRow for BookingRow {
 
     ghost stands_in = { IsOfTwo };
 
-    fn all() -> &'static str {
-        "SELECT room, day, start, stop, server, n, title, committed FROM booking"
+    type Parts = (SlotParts, bool);
+
+    ghost of = { booking_of };
+
+    fn texts() -> RowTexts {
+        RowTexts {
+            all: "SELECT room, day, start, stop, server, n, title, committed FROM booking",
+            put: "INSERT OR REPLACE INTO booking (room, day, start, stop, server, n, title, committed) VALUES (?1, ?2, ?3, ?4, ?5, ?6, ?7, ?8)",
+        }
     }
 
-    fn read(alloc: Global, row: &Row) -> Result<BookingRow, Error> {
-        read_booking(alloc, row)
+    fn of(parts: (SlotParts, bool)) -> BookingRow {
+        let (((((room, day), span), id), title), committed) = parts;
+        BookingRow {
+            room,
+            day,
+            start: span.start,
+            stop: span.stop,
+            server: id.server,
+            n: id.n,
+            title,
+            committed,
+        }
     }
 
-    fn test(row: &Row) -> Result<(), Error> {
-        passes(has_booking(row))
-    }
-
-    fn put<S: Alter>(&self, tx: &mut Transaction<'_, S>, alloc: Global) -> Result<usize, Error> {
-        let day = day_text(alloc, self.day)?;
-        tx.execute(
-            "INSERT OR REPLACE INTO booking (room, day, start, stop, server, n, title, committed) VALUES (?1, ?2, ?3, ?4, ?5, ?6, ?7, ?8)",
-            slot_params![self, day, self.committed],
+    fn parts(self) -> (SlotParts, bool) {
+        let id = self.id();
+        let (start, stop) = (self.start, self.stop);
+        let span = Span { start, stop };
+        (
+            ((((self.room, self.day), span), id), self.title),
+            self.committed,
         )
     }
 
-    ghost shown_as = { λ r. refl };
+    ghost made = { booking_made };
 
     ghost order = { id_order };
 
@@ -82,11 +79,8 @@ impl OurRow for BookingRow {
 impl RequestRow for BookingRow {
     ghost id_of = { booking_id };
 
-    fn take<S: Alter>(tx: &mut Transaction<'_, S>, id: WriteId) -> Result<usize, Error> {
-        tx.execute(
-            "DELETE FROM booking WHERE server = ?1 AND n = ?2",
-            params![id.server.number(), id.n],
-        )
+    fn taking() -> &'static str {
+        "DELETE FROM booking WHERE server = ?1 AND n = ?2"
     }
 }
 
@@ -97,29 +91,41 @@ impl StoredRow for ErrorRow {
 
     ghost stands_in = { IsOfTwo };
 
-    fn all() -> &'static str {
-        "SELECT room, day, start, stop, server, n, title, tm, seq FROM errorlog"
+    type Parts = ((SlotParts, Time), Commit);
+
+    ghost of = { error_of };
+
+    fn texts() -> RowTexts {
+        RowTexts {
+            all: "SELECT room, day, start, stop, server, n, title, tm, seq FROM errorlog",
+            put: "INSERT OR REPLACE INTO errorlog (room, day, start, stop, server, n, title, tm, seq) VALUES (?1, ?2, ?3, ?4, ?5, ?6, ?7, ?8, ?9)",
+        }
     }
 
-    fn read(alloc: Global, row: &Row) -> Result<ErrorRow, Error> {
-        read_error(alloc, row)
+    fn of(parts: ((SlotParts, Time), Commit)) -> ErrorRow {
+        let ((((((room, day), span), id), title), time), seq) = parts;
+        ErrorRow {
+            room,
+            day,
+            start: span.start,
+            stop: span.stop,
+            server: id.server,
+            n: id.n,
+            title,
+            time: time.0,
+            seq: seq.0,
+        }
     }
 
-    fn test(row: &Row) -> Result<(), Error> {
-        passes(has_error(row))
+    fn parts(self) -> ((SlotParts, Time), Commit) {
+        let id = self.id();
+        let (start, stop) = (self.start, self.stop);
+        let span = Span { start, stop };
+        let slot = ((((self.room, self.day), span), id), self.title);
+        ((slot, Within(self.time)), Within(self.seq))
     }
 
-    fn put<S: Alter>(&self, tx: &mut Transaction<'_, S>, alloc: Global) -> Result<usize, Error> {
-        let time = Number::new(self.time, 7)?;
-        let seq = Number::new(self.seq, 8)?;
-        let day = day_text(alloc, self.day)?;
-        tx.execute(
-            "INSERT OR REPLACE INTO errorlog (room, day, start, stop, server, n, title, tm, seq) VALUES (?1, ?2, ?3, ?4, ?5, ?6, ?7, ?8, ?9)",
-            slot_params![self, day, time, seq],
-        )
-    }
-
-    ghost shown_as = { λ r. refl };
+    ghost made = { error_made };
 
     ghost order = { id_order };
 
@@ -139,11 +145,8 @@ impl OurRow for ErrorRow {
 impl RequestRow for ErrorRow {
     ghost id_of = { error_id };
 
-    fn take<S: Alter>(tx: &mut Transaction<'_, S>, id: WriteId) -> Result<usize, Error> {
-        tx.execute(
-            "DELETE FROM errorlog WHERE server = ?1 AND n = ?2",
-            params![id.server.number(), id.n],
-        )
+    fn taking() -> &'static str {
+        "DELETE FROM errorlog WHERE server = ?1 AND n = ?2"
     }
 }
 
@@ -154,28 +157,28 @@ impl StoredRow for CancelledRow {
 
     ghost stands_in = { λ under. under ≡ our_schema };
 
-    fn all() -> &'static str {
-        "SELECT room, day, start, stop, server, n, title, committed, bserver, bn FROM cancelled"
+    type Parts = ((SlotParts, bool), WriteId);
+
+    ghost of = { cancelled_of };
+
+    fn texts() -> RowTexts {
+        RowTexts {
+            all: "SELECT room, day, start, stop, server, n, title, committed, bserver, bn FROM cancelled",
+            put: "INSERT OR REPLACE INTO cancelled (room, day, start, stop, server, n, title, committed, bserver, bn) VALUES (?1, ?2, ?3, ?4, ?5, ?6, ?7, ?8, ?9, ?10)",
+        }
     }
 
-    fn read(alloc: Global, row: &Row) -> Result<CancelledRow, Error> {
-        read_cancelled(alloc, row)
+    fn of(parts: ((SlotParts, bool), WriteId)) -> CancelledRow {
+        let (booking, by) = parts;
+        let booking = BookingRow::of(booking);
+        CancelledRow { booking, by }
     }
 
-    fn test(row: &Row) -> Result<(), Error> {
-        passes(has_cancelled(row))
+    fn parts(self) -> ((SlotParts, bool), WriteId) {
+        (self.booking.parts(), self.by)
     }
 
-    fn put<S: Alter>(&self, tx: &mut Transaction<'_, S>, alloc: Global) -> Result<usize, Error> {
-        let (booking, by) = (&self.booking, self.by);
-        let day = day_text(alloc, booking.day)?;
-        tx.execute(
-            "INSERT OR REPLACE INTO cancelled (room, day, start, stop, server, n, title, committed, bserver, bn) VALUES (?1, ?2, ?3, ?4, ?5, ?6, ?7, ?8, ?9, ?10)",
-            slot_params![booking, day, booking.committed, by.server.number(), by.n],
-        )
-    }
-
-    ghost shown_as = { λ r. refl };
+    ghost made = { cancelled_made };
 
     ghost order = { id_order };
 
@@ -195,10 +198,52 @@ impl OurRow for CancelledRow {
 impl RequestRow for CancelledRow {
     ghost id_of = { cancelled_id };
 
-    fn take<S: Alter>(tx: &mut Transaction<'_, S>, id: WriteId) -> Result<usize, Error> {
-        tx.execute(
-            "DELETE FROM cancelled WHERE server = ?1 AND n = ?2",
-            params![id.server.number(), id.n],
-        )
+    fn taking() -> &'static str {
+        "DELETE FROM cancelled WHERE server = ?1 AND n = ?2"
     }
+}
+
+impl AskedRow for BookingRow {
+    ghost room_of = { λ row. row.room };
+
+    ghost id_of = { booking_id };
+
+    fn asked() -> AskedTexts {
+        AskedTexts {
+            of_room: "SELECT room, day, start, stop, server, n, title, committed FROM booking WHERE room = ?1",
+            of_id: "SELECT room, day, start, stop, server, n, title, committed FROM booking WHERE server = ?1 AND n = ?2",
+        }
+    }
+
+    ghost by_id = { λ stored. refl };
+}
+
+impl AskedRow for ErrorRow {
+    ghost room_of = { λ row. row.room };
+
+    ghost id_of = { error_id };
+
+    fn asked() -> AskedTexts {
+        AskedTexts {
+            of_room: "SELECT room, day, start, stop, server, n, title, tm, seq FROM errorlog WHERE room = ?1",
+            of_id: "SELECT room, day, start, stop, server, n, title, tm, seq FROM errorlog WHERE server = ?1 AND n = ?2",
+        }
+    }
+
+    ghost by_id = { λ stored. refl };
+}
+
+impl AskedRow for CancelledRow {
+    ghost room_of = { λ row. row.room };
+
+    ghost id_of = { cancelled_id };
+
+    fn asked() -> AskedTexts {
+        AskedTexts {
+            of_room: "SELECT room, day, start, stop, server, n, title, committed, bserver, bn FROM cancelled WHERE room = ?1",
+            of_id: "SELECT room, day, start, stop, server, n, title, committed, bserver, bn FROM cancelled WHERE server = ?1 AND n = ?2",
+        }
+    }
+
+    ghost by_id = { λ stored. refl };
 }

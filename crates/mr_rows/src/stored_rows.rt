@@ -14,11 +14,23 @@ ghost use Rattle.mr_rows.specs.Schema.{our_schema};
 ghost use Rattle.mr_rows.specs.Database.{AreHeld, tables_in};
 ghost use Rattle.mr_rows.specs.TableSteps.{PutsRow, TakesRow, IsTableOf};
 ghost use Rattle.mr_rows.specs.Causes.{AsksAll};
+ghost use Rattle.mr_rows.specs.Facts.{Puts, Takes};
+ghost use Rattle.mr_rows.specs.MadeRows.{IsMade};
 
+use crate::cells::passes;
+use crate::columns::Cells;
+use crate::params_of::lent;
 use mr_base::WriteId;
 use mr_tables::TableRow;
-use sqlite::{Alter, Error, ErrorCode, Row, Transaction};
+use sqlite::{Alter, Error, ErrorCode, Row, Transaction, params};
 use std::alloc::Global;
+
+/// The text that asks for all rows of a table, and the one that puts a row.
+#[derive(Clone, Copy, Debug)]
+pub struct RowTexts {
+    pub all: &'static str,
+    pub put: &'static str,
+}
 
 /// A row of a table that a database keeps, with one row for each key.
 pub trait StoredRow: TableRow {
@@ -31,30 +43,57 @@ pub trait StoredRow: TableRow {
     // which schemas have the table
     ghost stands_in: { Schema → Type 0 };
 
-    /// The text that asks for all rows of the table.
-    fn all() -> &'static str
-        ensures asks { (under : Schema) → stands_in under → AsksAll under form.table.tree (length form.table.columns) result.now };
+    /// What statements on the table say.
+    fn texts() -> RowTexts
+        ensures asks { (under : Schema) → stands_in under → AsksAll under form.table.tree (length form.table.columns) result.all.now }
+        ensures puts { (under : Schema) → stands_in under → Puts under form result.put.now };
+
+    /// The values of the columns, in the order of the table.
+    type Parts: Cells;
+
+    ghost of: { Self.Parts → Self };
+
+    /// The row of these values.
+    fn of(parts: Self::Parts) -> Self
+        ensures { result ≡ of parts };
+
+    /// The values of the row.
+    fn parts(self) -> Self::Parts
+        ensures { self ≡ of result };
 
     /// Reads a row that a query shows, with the columns in the order of the table.
     fn read(alloc: Global, row: &Row) -> Result<Self, Error>
         ensures row { IfOk result (λ r. r ≡ form.row_in (Null ∷ row.now)) }
         ensures cells { IfOk result (λ r. form.cells r ≡ columns_from 0 (length form.table.columns) row.now) }
         ensures within { IfOk result (λ r. IsTrue (form.within r)) }
-        ensures refused { IfErr result (λ e. e ≢ Error.SqliteFailure ErrorCode.OutOfMemory → ¬ IsShownAs form row.now) };
+        ensures refused { IfErr result (λ e. e ≢ Error.SqliteFailure ErrorCode.OutOfMemory → ¬ IsShownAs form row.now) }
+    {
+        let parts = Self::Parts::read(alloc, row, 0)?;
+        Ok(Self::of(parts))
+    }
 
     /// Tests a row that a query shows, as `read` does, and makes nothing of it.
     fn test(row: &Row) -> Result<(), Error>
         ensures passes { OnOk result (IsShownAs form row.now) }
-        ensures refused { IfErr result (λ _. ¬ IsShownAs form row.now) };
+        ensures refused { IfErr result (λ _. ¬ IsShownAs form row.now) }
+    {
+        passes(Self::Parts::has(row, 0))
+    }
 
     /// Puts the row in place of the one with its key, if there is one.
     fn put<S: Alter>(&self, tx: &mut Transaction<'_, S>, alloc: Global) -> Result<usize, Error>
         ensures same_reference { tx.new.conn.ghost_name ≡ tx.old.conn.ghost_name }
         ensures put { PutsRow stands_in form self.now (state S.Store tx.old.conn.now) (state S.Store tx.new.conn.now) result }
-        ensures survives { Survives (state S.Store tx.old.conn.now) (state S.Store tx.new.conn.now) (λ _. ⊥) };
+        ensures survives { Survives (state S.Store tx.old.conn.now) (state S.Store tx.new.conn.now) (λ _. ⊥) }
+    {
+        let mut cells = Vec::new(alloc);
+        self.copied(alloc)?.parts().add(alloc, &mut cells)?;
+        let params = lent(alloc, &cells)?;
+        tx.execute(Self::texts().put, &params)
+    }
 
-    // what is read of the columns that a query shows is read of the stored row
-    ghost shown_as: { (r : Cells) → form.row_in (Null ∷ columns_from 1 (length form.table.columns) r) ≡ form.row_in r };
+    // of which the row is made
+    ghost made: { IsMade form Self.Parts.columns of };
 
     ghost order: { IsOrder Key form.before };
 
@@ -77,11 +116,18 @@ pub trait OurRow: StoredRow {
 pub(crate) trait RequestRow: OurRow {
     ghost id_of: { Self → Id };
 
+    /// The text that takes the row with an id away.
+    fn taking() -> &'static str
+        ensures { Takes Self.form id_of result.now };
+
     /// Takes the row with the id away, if there is one.
     fn take<S: Alter>(tx: &mut Transaction<'_, S>, id: WriteId) -> Result<usize, Error>
         ensures same_reference { tx.new.conn.ghost_name ≡ tx.old.conn.ghost_name }
         ensures taken { TakesRow our_schema Self.form id_of id (state S.Store tx.old.conn.now) (state S.Store tx.new.conn.now) result }
-        ensures survives { Survives (state S.Store tx.old.conn.now) (state S.Store tx.new.conn.now) (λ _. ⊥) };
+        ensures survives { Survives (state S.Store tx.old.conn.now) (state S.Store tx.new.conn.now) (λ _. ⊥) }
+    {
+        tx.execute(Self::taking(), params![id.server.number(), id.n])
+    }
 }
 
 /// The rows of an answer, in its order.

@@ -7,6 +7,7 @@ use Rattle.mr_rows.proofs.QueryLemmas.{looks_so}
 use Rattle.mr_rows.proofs.StreamedRows.{taken_more, begun, refused, advanced, none_left, one_done}
 use Rattle.mr_rows.proofs.CauseLemmas.{not_asked, not_advanced, given_is, shows_all, shows_only}
 use Rattle.mr_rows.proofs.RowOrder.{shown_is}
+use Rattle.mr_rows.proofs.RowsReadBack.{shown_as}
 use Rattle.mr_rows.proofs.found.take_rows.Goals as goal
 
 pub returns-in_err-rows-clause-looks : goal.returns-in_err-rows-clause-looks
@@ -97,7 +98,7 @@ returns-in_err-take_row-in-Some-clause-cause g c under asks = λ clean here stor
     let row = row_if new.has_row new.conn.now in
     let read = advanced g.S.Store c.args.sql.now [] asks.plain Q first c.rows.rows.conn.now new.conn.now (Ok (tt {0})) row (c.rows.invariant.2 under asks.plain) moved.ok moved.same moved.kept moved.survives in
     let f = g.R.StoredRow.form in
-    let shows = shows_only f.table.tree (length f.table.columns) c.args.sql.now (IsShownAs f) (IsStoredAs f) first asks (shown_is f g.met.R.StoredRow.shown_as) here.schema stored in
+    let shows = shows_only f.table.tree (length f.table.columns) c.args.sql.now (IsShownAs f) (IsStoredAs f) first asks (shown_is f (shown_as f g.R.Parts.Cells.columns g.R.StoredRow.of g.met.R.StoredRow.made)) here.schema stored in
     let is = given_is g.S.Store c.args.sql.now [] asks.plain asks.sure (IsShownAs f) Q first new.conn.now row c.in-Some.row.now c.in-Some.ensures shows read (search rules) here in
     let refused = c.in_err-take_row-in-Some.ensures.refused in
     search rules

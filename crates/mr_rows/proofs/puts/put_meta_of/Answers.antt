@@ -8,8 +8,9 @@ use Rattle.mr_rows.specs.Schema.{IsOfTwo}
 use Rattle.mr_rows.specs.Form.{meta_form_of}
 use Rattle.mr_rows.specs.TableSteps.{PutsRow}
 use Rattle.mr_rows.proofs.TableFacts.{meta_facts, meta_facts_first}
-use Rattle.mr_rows.proofs.StatementLemmas.{Puts, under_two, puts_row}
+use Rattle.mr_rows.proofs.StatementLemmas.{under_two, puts_row}
 use Rattle.mr_rows.proofs.puts.put_meta_of.Goals as goal
+use Rattle.mr_rows.specs.Facts.{Puts}
 
 pub returns-clause-put : goal.returns-clause-put
 unfolding understood everything meta_facts meta_facts_first
