@@ -13,6 +13,8 @@ import re
 import subprocess
 import sys
 
+import table_cost
+
 ROOT = os.path.realpath(os.path.join(os.path.dirname(os.path.realpath(__file__)), '..', '..'))
 UNITS = 'no one two three four five six seven eight nine ten eleven twelve thirteen fourteen fifteen sixteen seventeen eighteen nineteen'.split()
 TENS = 'twenty thirty forty fifty sixty seventy eighty ninety'.split()
@@ -79,6 +81,10 @@ COUNTS = (
     (r'(?i:\brefusals, (?:from )?1 to {}\b)', lambda: len(refusals())),
     (r'(?i:\b{} of the type `mr_base::Refusal`)', lambda: len(refusals())),
     (r'(?i:\b{} commands in all\b)', lambda: len(commands())),
+    (r'\bfurther table costs {} lines\b', lambda: sum(table_cost.totals().values())),
+    (r'\(`cancel`: {} of source\b', lambda: table_cost.totals()['src']),
+    (r'`cancel`: \d+ of source, {} of definitions\b', lambda: table_cost.totals()['specs']),
+    (r'`cancel`: \d+ of source, \d+ of definitions, {} of proofs\b', lambda: table_cost.totals()['proofs']),
     (r'(?i:\b{} promises\b)', lambda: len(re.findall(r'^### \d+\. ', text_of('docs/PROMISES.md'), re.M))),
 )
 
