@@ -2,6 +2,7 @@
 
 ghost use Rattle.std.specs.Prelude.{◌≡◌, ◌⊎◌, true, IfOk, IfErr, IfSome, IsSome, IsTrue};
 ghost use Rattle.sqlite_trees.specs.Tree.{Trees};
+ghost use Rattle.sqlite_catalog.specs.Listing.{IsSound};
 ghost use Rattle.sqlite.specs.Recovery.{Image};
 ghost use Rattle.sqlite.specs.WalFiles.{image_at};
 ghost use Rattle.sqlite.specs.WalReads.{AreClean};
@@ -11,6 +12,7 @@ ghost use Rattle.sqlite.specs.Files.{file_state, image_of, IsClosed};
 ghost use Rattle.sqlite.specs.Closing.{IsCopied};
 ghost use Rattle.mr_agree.specs.Agreeing.{agree};
 ghost use Rattle.mr_disk.specs.Copied.{image_copied};
+ghost use Rattle.mr_rows.specs.Schema.{first_schema};
 ghost use Rattle.mr_rows.specs.Database.{tables_in};
 ghost use Rattle.mr_sql.specs.Found.{IsAdopted, IsResumed, IsTaken};
 ghost use Rattle.mr_sql.specs.Refused.{IsFoundIn, IsNobodys};
@@ -181,6 +183,7 @@ fn take_copy<S: Alter + Drop>(
     ensures refused { IfErr result (λ e. (r : _) → e.0 ≡ NotCopied.Refused r → HasCleanDisk (state S.Store e.1)
         → HasCleanDisk (state S.Store conn) × RefusesToResume (state S.Store conn).now.trees r (state S.Store e.1)) }
     ensures cause { IfErr result (λ e. (r : _) → e.0 ≡ NotCopied.Refused r → IsOfOpening r) }
+    ensures first { IfErr result (λ e. e.0 ≡ NotCopied.OnlyInFile → (state S.Store conn).now.schema ≡ first_schema) }
 {
     if is_first(&conn) {
         return Err((NotCopied::OnlyInFile, conn));
@@ -273,6 +276,8 @@ impl SqlKeeper<FileStore<Memory>> {
         ensures cause { IfErr result (λ e. (r : _) → e ≡ NotCopied.Refused r → IsOfOpening r) }
         ensures strange { IfErr result (λ e. e ≡ NotCopied.Refused Refusal.NotAReplica
             → (before : Trees) × IsFoundIn (image_copied copied) before × IsNobodys before) }
+        ensures first { IfErr result (λ e. e ≡ NotCopied.OnlyInFile
+            → (before : Trees) × IsFoundIn (image_copied copied) before × IsSound first_schema before) }
     {
         let conn = match open_disks(rt, copied) {
             Ok(conn) => conn,
