@@ -81,7 +81,7 @@ COUNTS = (
     (r'(?i:\brefusals, (?:from )?1 to {}\b)', lambda: len(refusals())),
     (r'(?i:\b{} of the type `mr_base::Refusal`)', lambda: len(refusals())),
     (r'(?i:\b{} commands in all\b)', lambda: len(commands())),
-    (r'\bfurther table costs {} lines\b', lambda: sum(table_cost.totals().values())),
+    (r'\bA table costs {} lines\b', lambda: sum(table_cost.totals().values())),
     (r'\(`cancel`: {} of source\b', lambda: table_cost.totals()['src']),
     (r'`cancel`: \d+ of source, {} of definitions\b', lambda: table_cost.totals()['specs']),
     (r'`cancel`: \d+ of source, \d+ of definitions, {} of proofs\b', lambda: table_cost.totals()['proofs']),
