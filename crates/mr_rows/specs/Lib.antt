@@ -1,4 +1,4 @@
--- A reader of the contracts trusts Schema, Meaning, Shelf, RowCells, RowLimits, CellLimits, TableLimits, Columns, Form, Database, Reads, Causes, RowsAsked, Shown, Kept, ChangeParts, TableSteps and OurTables.
+-- A reader of the contracts trusts Schema, Meaning, Shelf, RowCells, RowLimits, CellLimits, TableLimits, Columns, Form, Database, Reads, Causes, RowsAsked, Shown, Kept, ChangeParts, TableSteps, OurTables, MadeRows, Facts, StatementMeaning, ColumnLaws and ShownCells.
 pub mod Schema
 pub mod Meaning
 pub mod Shelf
