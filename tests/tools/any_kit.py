@@ -63,8 +63,8 @@ one = refl
 """,
     "crates/high/edits/another_first.edit": "rows: EchoRows\ncrate: low\nfile: specs/Echo.antt\nold: first = 1\nnew: first = 2\n",
 }
-# an edit that means the same, which no prover refuses
-SAME = "crates/low/edits/the_same.edit", "file: src/lib.rt\nold:     x\nnew:     (x)\n"
+# an edit that means the same, which no prover refuses, whose only goal is left out
+SAME = "crates/low/edits/the_same.edit", "file: src/lib.rt\nold:     x\nnew:     (x)\nbeside: returns\n"
 # `rt` without the names that AWAY has; as a command it is `rt` itself
 STAND_IN = '''#!/usr/bin/env python3
 import importlib.machinery, importlib.util, os, sys
