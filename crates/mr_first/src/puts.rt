@@ -10,6 +10,7 @@ use crate::first_rows::FirstRow;
 use crate::rows::{FirstUndoRow, WriteRow};
 use crate::tables::First;
 use mr_base::RoomName;
+use mr_rows::put_row;
 use mr_rows::puts::put_meta_of;
 use mr_tables::{BookingRow, ErrorRow, MetaRow, TableRow, VectorRow};
 use sqlite::{Alter, Error, Transaction};
@@ -35,7 +36,7 @@ fn put_all<R: FirstRow, S: Alter>(
     ensures survives { Survives (state S.Store tx.old.conn.now) (state S.Store tx.new.conn.now) (λ _. ⊥) }
 {
     'rows: for row in rows {
-        row.put(tx, alloc)?;
+        put_row(tx, alloc, row)?;
     }
     Ok(())
 }

@@ -16,7 +16,7 @@ ghost use Rattle.mr_rows.specs.Causes.{FailsByStore};
 ghost use Rattle.mr_rows.specs.RowsAsked.{AreChosen, AsksFor};
 
 use crate::idle::Idle;
-use crate::stored_rows::{StoredRow, read_all};
+use crate::stored_rows::{StoredRow, read_all, read_row};
 use mr_base::{RoomName, WriteId};
 use sqlite::types::ValueRef;
 use sqlite::{Alter, Error, ErrorCode, Row, params};
@@ -79,7 +79,7 @@ fn first_row<R: StoredRow>(alloc: Global, rows: &[Row]) -> Result<Option<R>, Err
 {
     match rows.first() {
         None => Ok(None),
-        Some(row) => Ok(Some(R::read(alloc, row)?)),
+        Some(row) => Ok(Some(read_row(alloc, row)?)),
     }
 }
 

@@ -8,7 +8,7 @@ ghost use Rattle.mr_rows.specs.ChangeParts.{board_taken, rows_taken, heads_put, 
 
 use crate::idle::Idle;
 use crate::puts::put_meta;
-use crate::stored_rows::{OurRow, RequestRow};
+use crate::stored_rows::{OurRow, RequestRow, put_row, take_by_id};
 use mr_base::{RoomName, WriteId};
 use mr_tables::{BookingRow, CancelRow, CancelledRow, Change, ErrorRow, LogRow, VectorRow};
 use sqlite::{Alter, Error, Transaction};
@@ -24,7 +24,7 @@ fn take_all<R: RequestRow, S: Alter>(
     ensures survives { Survives (state S.Store tx.old.conn.now) (state S.Store tx.new.conn.now) (λ _. ⊥) }
 {
     'gone: for id in gone {
-        R::take(tx, *id)?;
+        take_by_id::<R, S>(tx, *id)?;
     }
     Ok(())
 }
@@ -41,7 +41,7 @@ pub fn put_all<R: OurRow, S: Alter>(
     ensures survives { Survives (state S.Store tx.old.conn.now) (state S.Store tx.new.conn.now) (λ _. ⊥) }
 {
     'rows: for row in rows {
-        row.put(tx, alloc)?;
+        put_row(tx, alloc, row)?;
     }
     Ok(())
 }

@@ -13,7 +13,7 @@ use crate::idle::Idle;
 use crate::meta_table::find_meta;
 use crate::order::sort_rows;
 use crate::queries::ask_all;
-use crate::stored_rows::StoredRow;
+use crate::stored_rows::{StoredRow, add_row, test_row};
 use mr_base::RoomName;
 use mr_tables::{BookingRow, CancelRow, CancelledRow, ErrorRow, LogRow, Tables, VectorRow};
 use sqlite::{Alter, Error, ErrorCode, Row};
@@ -33,11 +33,11 @@ fn take_row<R: StoredRow>(
     ensures kept { OnOk result (IsTrue keep → out.new.items ≡ out.old.items ++ R.form.row_in (Null ∷ row.now) ∷ []) }
     ensures refused { IfErr result (λ e. e ≢ Error.SqliteFailure ErrorCode.OutOfMemory → ¬ IsShownAs R.form row.now) }
 {
-    if !keep {
-        return R::test(row);
+    if keep {
+        add_row(alloc, row, out)
+    } else {
+        test_row::<R>(row)
     }
-    out.push(R::read(alloc, row)?)?;
-    Ok(())
 }
 
 /// Takes the rows, one after the other, that a text shows which asks for all rows of the table.

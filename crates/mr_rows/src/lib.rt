@@ -28,7 +28,7 @@ mod stored_rows;
 mod table_rows;
 
 pub use idle::Idle;
-pub use stored_rows::{OurRow, RowTexts, StoredRow, read_all};
+pub use stored_rows::{OurRow, RowTexts, StoredRow, put_row, read_all, read_row, test_row};
 
 /// The rows of a replica's tables are within the limits for which each row is tested, so that none is refused.
 pub fn limits_law()

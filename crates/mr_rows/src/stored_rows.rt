@@ -1,4 +1,4 @@
-ghost use Rattle.std.specs.Prelude.{◌≡◌, ◌≢◌, [], ◌∷◌, length, map, List, IfOk, IfErr, OnOk, IsTrue};
+ghost use Rattle.std.specs.Prelude.{◌≡◌, ◌≢◌, [], ◌∷◌, ◌++◌, length, map, List, IfOk, IfErr, OnOk, IsTrue};
 ghost use Rattle.std.specs.List.{All};
 ghost use Rattle.sqlite_value.specs.declared.value.Value.TheVariants.{Null};
 ghost use Rattle.sqlite_value.specs.Order.{Row as Cells};
@@ -61,37 +61,6 @@ pub trait StoredRow: TableRow {
     fn parts(self) -> Self::Parts
         ensures { self ≡ of result };
 
-    /// Reads a row that a query shows, with the columns in the order of the table.
-    fn read(alloc: Global, row: &Row) -> Result<Self, Error>
-        ensures row { IfOk result (λ r. r ≡ form.row_in (Null ∷ row.now)) }
-        ensures cells { IfOk result (λ r. form.cells r ≡ columns_from 0 (length form.table.columns) row.now) }
-        ensures within { IfOk result (λ r. IsTrue (form.within r)) }
-        ensures refused { IfErr result (λ e. e ≢ Error.SqliteFailure ErrorCode.OutOfMemory → ¬ IsShownAs form row.now) }
-    {
-        let parts = Self::Parts::read(alloc, row, 0)?;
-        Ok(Self::of(parts))
-    }
-
-    /// Tests a row that a query shows, as `read` does, and makes nothing of it.
-    fn test(row: &Row) -> Result<(), Error>
-        ensures passes { OnOk result (IsShownAs form row.now) }
-        ensures refused { IfErr result (λ _. ¬ IsShownAs form row.now) }
-    {
-        passes(Self::Parts::has(row, 0))
-    }
-
-    /// Puts the row in place of the one with its key, if there is one.
-    fn put<S: Alter>(&self, tx: &mut Transaction<'_, S>, alloc: Global) -> Result<usize, Error>
-        ensures same_reference { tx.new.conn.ghost_name ≡ tx.old.conn.ghost_name }
-        ensures put { PutsRow stands_in form self.now (state S.Store tx.old.conn.now) (state S.Store tx.new.conn.now) result }
-        ensures survives { Survives (state S.Store tx.old.conn.now) (state S.Store tx.new.conn.now) (λ _. ⊥) }
-    {
-        let mut cells = Vec::new(alloc);
-        self.copied(alloc)?.parts().add(alloc, &mut cells)?;
-        let params = lent(alloc, &cells)?;
-        tx.execute(Self::texts().put, &params)
-    }
-
     // of which the row is made
     ghost made: { IsMade form Self.Parts.columns of };
 
@@ -119,15 +88,63 @@ pub(crate) trait RequestRow: OurRow {
     /// The text that takes the row with an id away.
     fn taking() -> &'static str
         ensures { Takes Self.form id_of result.now };
+}
 
-    /// Takes the row with the id away, if there is one.
-    fn take<S: Alter>(tx: &mut Transaction<'_, S>, id: WriteId) -> Result<usize, Error>
-        ensures same_reference { tx.new.conn.ghost_name ≡ tx.old.conn.ghost_name }
-        ensures taken { TakesRow our_schema Self.form id_of id (state S.Store tx.old.conn.now) (state S.Store tx.new.conn.now) result }
-        ensures survives { Survives (state S.Store tx.old.conn.now) (state S.Store tx.new.conn.now) (λ _. ⊥) }
-    {
-        tx.execute(Self::taking(), params![id.server.number(), id.n])
-    }
+/// Reads a row that a query shows, with the columns in the order of the table.
+pub fn read_row<R: StoredRow>(alloc: Global, row: &Row) -> Result<R, Error>
+    ensures row { IfOk result (λ r. r ≡ R.form.row_in (Null ∷ row.now)) }
+    ensures cells { IfOk result (λ r. R.form.cells r ≡ columns_from 0 (length R.form.table.columns) row.now) }
+    ensures within { IfOk result (λ r. IsTrue (R.form.within r)) }
+    ensures refused { IfErr result (λ e. e ≢ Error.SqliteFailure ErrorCode.OutOfMemory → ¬ IsShownAs R.form row.now) }
+{
+    let parts = R::Parts::read(alloc, row, 0)?;
+    Ok(R::of(parts))
+}
+
+/// Reads a row that a query shows, and puts it behind those that are there.
+pub(crate) fn add_row<R: StoredRow>(alloc: Global, row: &Row, out: &mut Vec<R>) -> Result<(), Error>
+    ensures added { OnOk result (out.new.items ≡ out.old.items ++ R.form.row_in (Null ∷ row.now) ∷ []) }
+    ensures shown { OnOk result (IsShownAs R.form row.now) }
+    ensures refused { IfErr result (λ e. e ≢ Error.SqliteFailure ErrorCode.OutOfMemory → ¬ IsShownAs R.form row.now) }
+{
+    out.push(read_row(alloc, row)?)?;
+    Ok(())
+}
+
+/// Tests a row that a query shows, as `read_row` does, and makes nothing of it.
+pub fn test_row<R: StoredRow>(row: &Row) -> Result<(), Error>
+    ensures passes { OnOk result (IsShownAs R.form row.now) }
+    ensures refused { IfErr result (λ _. ¬ IsShownAs R.form row.now) }
+{
+    passes(R::Parts::has(row, 0))
+}
+
+/// Puts the row in place of the one with its key, if there is one.
+pub fn put_row<R: StoredRow, S: Alter>(
+    tx: &mut Transaction<'_, S>,
+    alloc: Global,
+    row: &R,
+) -> Result<usize, Error>
+    ensures same_reference { tx.new.conn.ghost_name ≡ tx.old.conn.ghost_name }
+    ensures put { PutsRow R.stands_in R.form row.now (state S.Store tx.old.conn.now) (state S.Store tx.new.conn.now) result }
+    ensures survives { Survives (state S.Store tx.old.conn.now) (state S.Store tx.new.conn.now) (λ _. ⊥) }
+{
+    let mut cells = Vec::new(alloc);
+    row.copied(alloc)?.parts().add(alloc, &mut cells)?;
+    let params = lent(alloc, &cells)?;
+    tx.execute(R::texts().put, &params)
+}
+
+/// Takes the row with the id away, if there is one.
+pub(crate) fn take_by_id<R: RequestRow, S: Alter>(
+    tx: &mut Transaction<'_, S>,
+    id: WriteId,
+) -> Result<usize, Error>
+    ensures same_reference { tx.new.conn.ghost_name ≡ tx.old.conn.ghost_name }
+    ensures taken { TakesRow our_schema R.form R.id_of id (state S.Store tx.old.conn.now) (state S.Store tx.new.conn.now) result }
+    ensures survives { Survives (state S.Store tx.old.conn.now) (state S.Store tx.new.conn.now) (λ _. ⊥) }
+{
+    tx.execute(R::taking(), params![id.server.number(), id.n])
 }
 
 /// The rows of an answer, in its order.
@@ -137,7 +154,7 @@ pub fn read_all<R: StoredRow>(alloc: Global, rows: &[Row]) -> Result<Vec<R>, Err
 {
     let mut out = Vec::new(alloc);
     'rows: for row in rows {
-        out.push(R::read(alloc, row)?)?;
+        add_row(alloc, row, &mut out)?;
     }
     Ok(out)
 }

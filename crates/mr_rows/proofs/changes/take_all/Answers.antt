@@ -8,11 +8,11 @@ pub gone-preserved : goal.gone-preserved
 gone-preserved g c =
     let first = state g.S.Store c.args.tx.now.conn.now in
     let now = state g.S.Store c.gone.tx.conn.now in
-    let next = state g.S.Store c.take.new.tx.conn.now in (
-      c.take.ensures.same_reference ∙ c.gone.invariant.0,
-      none_commits first now next c.gone.invariant.1 c.take.ensures.survives,
+    let next = state g.S.Store c.take_by_id.new.tx.conn.now in (
+      c.take_by_id.ensures.same_reference ∙ c.gone.invariant.0,
+      none_commits first now next c.gone.invariant.1 c.take_by_id.ensures.survives,
       goes_on_at first now next (rows_taken g.R.RequestRow.id_of g.R.OurRow.rows_of g.R.OurRow.with_rows) c.args.gone.now c.gone.id-index c.id-item.result _ (taken_more g.R.StoredRow.form g.R.OurRow.rows_of g.R.OurRow.with_rows g.met.R.OurRow.is_ours g.R.RequestRow.id_of) c.gone-test.true c.id-item.is c.gone.invariant.2
-          (makes_taken g.R.StoredRow.form g.R.OurRow.rows_of g.R.OurRow.with_rows g.met.R.OurRow.is_ours g.R.RequestRow.id_of now next c.id-item.result (Ok (tt {0})) c.in_ok-take.ensures.taken) c.take.ensures.survives,
+          (makes_taken g.R.StoredRow.form g.R.OurRow.rows_of g.R.OurRow.with_rows g.met.R.OurRow.is_ours g.R.RequestRow.id_of now next c.id-item.result (Ok (tt {0})) c.in_ok-take_by_id.ensures.taken) c.take_by_id.ensures.survives,
     )
 
 pub returns-clause-made : goal.returns-clause-made
