@@ -1,12 +1,12 @@
 -- Rows of the tables that the first schema alone has, as they are made of the values of their columns.
-use Rattle.std.proofs.Common.{◌≡◌, ℕ, zero, suc, pos, negsuc, ◌∷◌, [], Bool, ◌&&◌, refl, sym, ap, ◌∙◌}
+use Rattle.std.proofs.Common.{ℕ, zero, suc, pos, negsuc, ◌∷◌, [], ◌&&◌, refl, ap, ◌∙◌}
 use Rattle.std.proofs.Math.Bool.{and_assoc}
 use Rattle.sqlite_value.specs.declared.value.Value.{Value}
 use Rattle.sqlite_value.specs.declared.value.Value.TheVariants.{Null, Int, Real, Text, Blob}
 use Rattle.sqlite_value.specs.Order.{column}
 use Rattle.mr_model.specs.Texts as texts
 use Rattle.mr_model.specs.Writes.{Id, is_length, is_title}
-use Rattle.mr_model.specs.Replay.{Place, Taken, Logged, Done, Void}
+use Rattle.mr_model.specs.Replay.{Place}
 use Rattle.mr_model.specs.Tables.{MeetingCells}
 use Rattle.mr_model.specs.First.{WriteRow, FirstUndoRow}
 use Rattle.mr_rows.specs.RowCells.{whole_of, place_number, place_in}

@@ -176,6 +176,16 @@ pub made_fails : {X Y : Type 0} {under : Schema} (a b : State) (x : X) (P : X �
     → (Rows a.now.trees → P x → IfErr r (λ e. e ≢ SqliteFailure code.OutOfMemory → ⊥)) → FailsByStoreIn under Rows a b r
 made_fails {X} {Y} {under} a b x P Rows r = made_fails_where (IsPlacedIn under) a b x P Rows r
 
+-- the same error tells the same, whatever else would have been answered
+pub same_reads : {X Y : Type 0} (Known : State → Type 0) (old new : State) (r : Result X Error) (P : X → Type 0) (out : Result Y Error) (Q : Y → Type 0) (e : Error) → out ≡ Err e → ReadsWhere Known old new r P → ReadsWhere Known old new out Q
+same_reads {X} {Y} Known old new r P out Q e is h = subst (λ (o : Result Y Error). ReadsWhere Known old new o Q) (sym is) (h.0, h.1, λ clean here. (tt, tt))
+
+pub same_error : {X Y : Type 0} (r : Result X Error) (out : Result Y Error) (e : Error) (P : Error → Type 0) → r ≡ Err e → out ≡ Err e → IfErr r P → IfErr out P
+same_error {X} {Y} r out e P was is h = subst (λ (o : Result Y Error). IfErr o P) (sym is) (subst (λ (o : Result X Error). IfErr o P) was h)
+
+pub same_fails : {X Y : Type 0} (Known : State → Type 0) (Rows : Trees → Type 0) (old new : State) (r : Result X Error) (out : Result Y Error) (e : Error) → r ≡ Err e → out ≡ Err e → FailsByStoreWhere Known Rows old new r → FailsByStoreWhere Known Rows old new out
+same_fails {X} {Y} Known Rows old new r out e was is h = subst (λ (o : Result Y Error). FailsByStoreWhere Known Rows old new o) (sym is) (subst (λ (o : Result X Error). FailsByStoreWhere Known Rows old new o) was h)
+
 -- ---- what is made of rows
 
 pub none_shown : (show : Row → Row) (stored shown : List Row) → IsPermutation (map show stored) shown → stored ≡ [] → shown ≡ []

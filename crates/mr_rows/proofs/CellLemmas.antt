@@ -86,6 +86,10 @@ tested_utf8 test low t h = utf8 t (all_weaker (λ c. test c ≡ true) (λ c. c <
 spelled_utf8 : (t spelled : Text) → bytes_eq spelled t ≡ true → Low spelled → is_utf8 t ≡ true
 spelled_utf8 t spelled same low = subst (λ x. is_utf8 x ≡ true) ((bytes_eq-Decides spelled t).0 same) (utf8 spelled low)
 
+-- a number between one and one
+pub the_one : (n : ℕ) → within 1 1 n ≡ true → n ≡ 1
+the_one n h = grind (arith, nat_tests)
+
 -- the name of a room, a title, a day's text and a time's
 pub name_utf8 : (t : Text) → is_room_name t ≡ true → is_utf8 t ≡ true
 name_utf8 t h = tested_utf8 is_room_byte (λ c is. grind (arith, nat_tests)) t (and_parts (within 1 16 (length t)) _ h).1

@@ -1,15 +1,18 @@
 -- The first row that a query shows is the one that the tables have.
-use Rattle.std.proofs.Common.{◌≡◌, ℕ, Bool, true, false, List, [], ◌∷◌, map, filter, inl, inr, Some, refl, sym, subst, ◌∙◌}
+use Rattle.std.proofs.Common.{◌≡◌, ℕ, Bool, true, false, List, [], ◌∷◌, map, filter, inl, inr, Some, Result, Ok, Err, IfErr, refl, sym, subst, ◌∙◌}
 use Rattle.std.specs.Prelude.{find, nat_lt}
+use Rattle.std.specs.List.{slice_get}
 use Rattle.std.specs.List.Sorted.{IsPermutation}
 use Rattle.std.proofs.lemmas.List.Sorted.{IsPermutation-sym, Contains-permutation}
 use Rattle.sqlite_value.specs.Order.{Row}
+use Rattle.sqlite.specs.declared.error.Error.{Error}
 use Rattle.sqlite_rules.specs.Lists as rules
 use Rattle.sqlite_rules.proofs.ListLemmas.{has_contained, contains_had}
 use Rattle.mr_model.specs.Writes.{Id, same_id}
 use Rattle.mr_model.specs.Replica.{is_among}
 use Rattle.mr_model.specs.Tables.{MetaRow}
 use Rattle.mr_model.specs.Dropped.{Has}
+use Rattle.mr_model.proofs.UniqueReplay.{some_inj}
 use Rattle.mr_model.proofs.Members.{has_filter, filter_has, find_none, find_one}
 use Rattle.mr_tables.specs.Change.{id_before, put_all}
 use Rattle.mr_tables.specs.TableOrders.{id_order, number_order}
@@ -74,3 +77,14 @@ meta_is rows shown m same first = go _ (has_moved shown _ m (IsPermutation-sym _
     go : (xs : List MetaRow) → Has m xs → OneAKey {K = ℕ} (λ _. 1) xs → m ≡ first_meta xs
     go [] h one = absurd h
     go (x ∷ xs) h one = one m x h (inl refl) refl
+
+-- ---- the first row alone
+
+first_is : {A : Type 0} (xs : List A) → first_of xs ≡ slice_get xs 0
+first_is [] = refl
+first_is (x ∷ xs) = refl
+
+-- what refuses the first row is so of it
+pub of_first : {X : Type 0} (rows : List Row) (one : Row) (r : Result X Error) (P : Row → Type 0) → Some one ≡ slice_get rows 0 → IfErr r (λ _. P one) → IfErr r (λ _. (row : Row) → first_of rows ≡ Some row → P row)
+of_first rows one (Ok x) P is h = tt
+of_first rows one (Err e) P is h = λ row here. subst P (some_inj one row (is ∙ sym (first_is rows) ∙ here)) h

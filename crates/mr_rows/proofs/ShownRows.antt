@@ -1,5 +1,5 @@
 -- What a test of cells where they lie tells of the row.
-use Rattle.std.proofs.Common.{◌≡◌, ℕ, ◌∷◌, length, Bool, false, IsTrue, Result, refl, sym, ap, ◌∙◌}
+use Rattle.std.proofs.Common.{◌≡◌, ℕ, ◌∷◌, Bool, false, IsTrue, Result, sym, ap, ◌∙◌}
 use Rattle.std.proofs.lemmas.Bool.Decides.{not_from_Decides}
 use Rattle.std.proofs.lemmas.Result.{on_ok_weaker, IfErr-weaker}
 use Rattle.std.specs.Bool.{Decides}

@@ -1,15 +1,12 @@
 -- What a statement makes of its table that puts a row or takes one away.
-use Rattle.std.proofs.Common.{◌≡◌, ℕ, ℤ, List, [], ◌∷◌, Bool, true, false, not, filter, ◌==◌, inl, inr, Ok, Err, Result, IsTrue, refl, sym, ap, subst}
+use Rattle.std.proofs.Common.{◌≡◌, ℕ, ℤ, List, [], ◌∷◌, Bool, false, not, filter, inl, inr, Ok, Err, Result, IsTrue, refl, sym, subst}
 use Rattle.std.proofs.lemmas.Bool.{cases_Bool}
-use Rattle.sqlite_value.specs.declared.value.Value.{Value}
 use Rattle.sqlite_value.specs.declared.value.Value.TheVariants.{Int}
 use Rattle.sqlite_value.specs.Order.{Row}
 use Rattle.sqlite_trees.specs.declared.store.Store as store
 use Rattle.sqlite_sql.specs.Term.{col}
 use Rattle.sqlite_schema.specs.declared.schema.Schema.{Schema}
-use Rattle.sqlite_schema.specs.declared.command.Conflict.TheVariants.{Replace}
-use Rattle.sqlite.specs.Command.TheVariants.{InsertOr, Delete}
-use Rattle.sqlite.specs.Source.TheVariants.{Values}
+use Rattle.sqlite.specs.Command.TheVariants.{Delete}
 use Rattle.sqlite.specs.declared.error.Error.{Error}
 use Rattle.sqlite.specs.Held.{Held, state}
 use Rattle.sqlite.specs.State.{State, HasCleanDisk, ExecutesInside, KeepsCommit}
@@ -17,7 +14,7 @@ use Rattle.mr_model.specs.Writes.{Id}
 use Rattle.mr_rows.specs.Schema.{our_schema, first_schema, IsOfTwo}
 use Rattle.mr_rows.specs.Form.{Form}
 use Rattle.mr_rows.specs.TableSteps.{TurnsInto, PutsRow, TakesRow}
-use Rattle.mr_rows.specs.StatementMeaning.{MeansIn, program_of, values_of, width_of}
+use Rattle.mr_rows.specs.StatementMeaning.{MeansIn, program_of}
 use Rattle.mr_rows.proofs.TableLemmas.{takes, puts}
 use Rattle.mr_rows.specs.Facts.{Facts, Puts, Takes}
 

@@ -1,14 +1,12 @@
 -- Cells of columns that pass their tests are spelled as what is read of them, and only such cells.
-use Rattle.std.proofs.Common.{◌≡◌, ℕ, zero, suc, ◌+◌, pos, [], ◌∷◌, ◌++◌, length, Bool, false, true, ◌&&◌, refl, sym, ap, subst, ◌∙◌, arith}
+use Rattle.std.proofs.Common.{◌≡◌, ℕ, zero, suc, ◌+◌, [], ◌∷◌, ◌++◌, length, Bool, false, true, ◌&&◌, refl, sym, ap, subst, ◌∙◌, arith}
 use Rattle.std.specs.Prelude.{take, drop, map}
 use Rattle.std.proofs.lemmas.List.{length-take, length-drop, length-append, map-append, take-append-drop}
-use Rattle.std.proofs.lemmas.Bool.Decides.{nat_tests}
 use Rattle.sqlite_value.specs.declared.value.Value.{Value}
 use Rattle.sqlite_value.specs.declared.value.Value.TheVariants.{Int}
 use Rattle.sqlite_value.specs.Order.{Row, column, bytes}
 use Rattle.sqlite.specs.Values.{bound_value}
 use Rattle.mr_model.specs.Writes.{Id, is_room_name, is_title}
-use Rattle.mr_model.specs.Replay.{Place}
 use Rattle.mr_model.specs.Tables.{ActionCells, OfMeeting, OfCancel, MeetingCells}
 use Rattle.mr_tables.specs.Cells.{is_cancel_cells}
 use Rattle.mr_rows.specs.RowCells.{nat_of, whole_of, place_number, place_in, action_row, action_in}

@@ -1,5 +1,5 @@
 -- Cells that pass a test are spelled as what is read of them, and only such cells.
-use Rattle.std.proofs.Common.{◌≡◌, ℕ, zero, suc, ◌+◌, ℤ, pos, negsuc, [], ◌∷◌, ◌++◌, length, length-append, Bool, true, false, ◌&&◌, refl, sym, ap, subst, ◌∙◌, arith}
+use Rattle.std.proofs.Common.{◌≡◌, ℕ, zero, suc, ℤ, pos, negsuc, [], ◌∷◌, ◌++◌, length, length-append, Bool, true, false, ◌&&◌, refl, sym, ap, subst, ◌∙◌, arith}
 use Rattle.std.proofs.Math.Bool.{and-true}
 use Rattle.std.proofs.lemmas.Bool.{and_parts, and_from}
 use Rattle.std.proofs.lemmas.Bool.Decides.{nat_tests}
@@ -12,7 +12,7 @@ use Rattle.sqlite_value.specs.Order.{Row, column, bytes}
 use Rattle.mr_model.specs.Texts as texts
 use Rattle.mr_model.specs.Texts.{within}
 use Rattle.mr_model.specs.Calendar.{is_date, date_text, date_in}
-use Rattle.mr_model.specs.Writes.{Id, is_id, greatest_count}
+use Rattle.mr_model.specs.Writes.{is_id, greatest_count}
 use Rattle.mr_rows.specs.RowCells.{nat_of, whole_of, flag_number, place_number, place_in}
 use Rattle.mr_rows.specs.RowLimits.{is_day_text, is_place_of}
 use Rattle.mr_rows.specs.CellLimits.{is_number, is_text, is_empty_text, is_mark_cell, is_id_cells, is_place_cell}

@@ -45,6 +45,10 @@ since a b c s now (inl more) = inl (let low = s.counts in omega (arith, low, mor
 since a b c s now (inr (inl shut)) = absurd (let never = rw shut at now in cc)
 since a b c s now (inr (inr limit)) = inr (inr (subst IsSome s.limit limit))
 
+-- the same error, whatever else would have been answered
+pub same_alone : {X Y : Type 0} (a b : State) (r : Result X Error) (out : Result Y Error) (e : Error) → r ≡ Err e → out ≡ Err e → FailsByStoreAlone a b r → FailsByStoreAlone a b out
+same_alone {X} {Y} a b r out e was is fails = subst (λ (o : Result Y Error). FailsByStoreAlone a b o) (sym is) (subst (λ (o : Result X Error). FailsByStoreAlone a b o) was fails)
+
 -- where only memory is wanting
 pub memory_alone : {X : Type 0} (r : Result X Error) → IfErr r (λ e. e ≡ SqliteFailure code.OutOfMemory) → IfErr r (λ e. e ≢ SqliteFailure code.OutOfMemory → ⊥)
 memory_alone (Ok x) memory = tt

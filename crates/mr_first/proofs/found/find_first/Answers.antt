@@ -1,4 +1,5 @@
-use Rattle.std.proofs.Common.{◌≤◌, inr, length, refl, rules}
+use Rattle.std.proofs.Common.{◌≤◌, inr, length, refl, ◌∙◌, ap, Err}
+use Rattle.std.proofs.lemmas.Result.{err_from_is_err_and}
 use Rattle.std.specs.Prelude.{false, IsTrue}
 use Rattle.sqlite.specs.Held.{state}
 use Rattle.mr_rows.specs.Schema.{first_schema}
@@ -10,10 +11,14 @@ use Rattle.mr_rows.proofs.CauseLemmas.{looks_fail}
 use Rattle.mr_first.specs.Forms.{first_meta_form, write_form, undo_form}
 use Rattle.mr_first.specs.FirstShown.{AreFirstRows}
 use Rattle.mr_first.proofs.ReadLemmas.{Stored, all_first, beside_meta, stand_in_first}
+use Rattle.mr_rows.specs.Reads.{IsPlacedIn}
+use Rattle.mr_rows.proofs.CauseLemmas.{same_reads, same_error}
 use Rattle.mr_first.proofs.found.find_first.Goals as goal
 
 pub returns-in_err-rows-clause-looks : goal.returns-in_err-rows-clause-looks
-returns-in_err-rows-clause-looks g c = let read = c.find.ensures.looks first_schema stand_in_first in (read.0, read.1, λ clean here. (search rules, search rules))
+returns-in_err-rows-clause-looks g c =
+    let p = err_from_is_err_and c.from_residual.result c.from_residual.ensures.1 in
+    same_reads (IsPlacedIn first_schema) (state g.S.Store c.args.conn.now) (state g.S.Store c.find.new.conn) c.find.result _ c.from_residual.result _ c.in_err-rows.field-0.0 (p.1 ∙ ap Err p.2) (c.find.ensures.looks first_schema stand_in_first)
 
 pub returns-clause-looks : goal.returns-clause-looks
 returns-clause-looks g c =
@@ -24,7 +29,9 @@ returns-clause-looks g c =
     (λ here m p q. (all_first a.now.trees p.0 q.0, q.1)) (c.in_ok-rows.ensures.looks first_schema stand_in_first) (c.find_meta.ensures.looks first_schema (inr refl))
 
 pub returns-in_err-rows-clause-cause : goal.returns-in_err-rows-clause-cause
-returns-in_err-rows-clause-cause g c = λ clean here rows. let told = c.find.ensures.cause first_schema stand_in_first clean here (beside_meta (state g.S.Store c.args.conn.now).now.trees rows.0) in search rules
+returns-in_err-rows-clause-cause g c = λ clean here rows.
+    let p = err_from_is_err_and c.from_residual.result c.from_residual.ensures.1 in
+    same_error c.find.result c.from_residual.result c.in_err-rows.field-0.0 _ c.in_err-rows.was (p.1 ∙ ap Err p.2) (c.find.ensures.cause first_schema stand_in_first clean here (beside_meta (state g.S.Store c.args.conn.now).now.trees rows.0))
 
 pub returns-clause-cause : goal.returns-clause-cause
 returns-clause-cause g c =

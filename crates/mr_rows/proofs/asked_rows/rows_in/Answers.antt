@@ -1,16 +1,21 @@
-use Rattle.std.proofs.Common.{◌≡◌, subst, sym, rules}
+use Rattle.std.proofs.Common.{◌≡◌, subst, sym, rules, ◌∙◌, ap, Err}
+use Rattle.std.proofs.lemmas.Result.{err_from_is_err_and}
 use Rattle.std.specs.Prelude.{bytes_eq}
 use Rattle.std.specs.List.Sorted.{IsPermutation}
 use Rattle.sqlite.specs.Held.{state}
 use Rattle.mr_rows.specs.RowsAsked.{AreChosen}
 use Rattle.mr_rows.proofs.QueryLemmas.{looks_made, told_so}
 use Rattle.mr_rows.proofs.CauseLemmas.{chosen_fails}
+use Rattle.mr_rows.proofs.CauseLemmas.{same_reads, same_error}
+use Rattle.mr_rows.specs.Reads.{IsPlacedIn}
+use Rattle.mr_rows.specs.Schema.{our_schema}
 use Rattle.mr_rows.proofs.asked_rows.rows_in.Goals as goal
 
 pub returns-in_err-rows-clause-looks : goal.returns-in_err-rows-clause-looks
 returns-in_err-rows-clause-looks g c =
     let looks = (rw (c.params-to_sql.ensures, c.as_str.ensures.text) at c.ask_for.ensures.looks) (λ row. bytes_eq (g.R.AskedRow.room_of row) c.args.room.now) (c.asked.ensures.room c.args.room.now) in
-    (looks.0, looks.1, λ clean here. (search rules, search rules))
+    let p = err_from_is_err_and c.from_residual.result c.from_residual.ensures.1 in
+    same_reads (IsPlacedIn our_schema) (state g.S.Store c.args.conn.now) (state g.S.Store c.ask_for.new.conn) c.ask_for.result _ c.from_residual.result _ c.in_err-rows.field-0.0 (p.1 ∙ ap Err p.2) looks
 
 pub returns-clause-looks : goal.returns-clause-looks
 returns-clause-looks g c =
@@ -21,7 +26,9 @@ returns-clause-looks g c =
     ((rw (c.params-to_sql.ensures, c.as_str.ensures.text) at c.in_ok-rows.ensures.looks) (λ row. bytes_eq (g.R.AskedRow.room_of row) c.args.room.now) (c.asked.ensures.room c.args.room.now))
 
 pub returns-in_err-rows-clause-cause : goal.returns-in_err-rows-clause-cause
-returns-in_err-rows-clause-cause g c = λ clean here rows. let told = (rw (c.params-to_sql.ensures, c.as_str.ensures.text) at c.ask_for.ensures.cause) (λ row. bytes_eq (g.R.AskedRow.room_of row) c.args.room.now) (c.asked.ensures.room c.args.room.now) clean here tt in search rules
+returns-in_err-rows-clause-cause g c = λ clean here rows.
+    let p = err_from_is_err_and c.from_residual.result c.from_residual.ensures.1 in
+    same_error c.ask_for.result c.from_residual.result c.in_err-rows.field-0.0 _ c.in_err-rows.was (p.1 ∙ ap Err p.2) ((rw (c.params-to_sql.ensures, c.as_str.ensures.text) at c.ask_for.ensures.cause) (λ row. bytes_eq (g.R.AskedRow.room_of row) c.args.room.now) (c.asked.ensures.room c.args.room.now) clean here tt)
 
 pub returns-clause-cause : goal.returns-clause-cause
 returns-clause-cause g c =

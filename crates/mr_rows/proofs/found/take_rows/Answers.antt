@@ -102,3 +102,7 @@ returns-in_err-take_row-in-Some-clause-cause g c under asks = λ clean here stor
     let is = given_is g.S.Store c.args.sql.now [] asks.plain asks.sure (IsShownAs f) Q first new.conn.now row c.in-Some.row.now c.in-Some.ensures shows read (search rules) here in
     let refused = c.in_err-take_row-in-Some.ensures.refused in
     search rules
+
+-- (out of memory)
+pub returns-clause-cause : goal.returns-clause-cause
+returns-clause-cause g c under asks = λ clean here stored other. absurd (other refl)

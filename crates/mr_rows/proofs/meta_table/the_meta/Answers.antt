@@ -1,4 +1,5 @@
-use Rattle.std.proofs.Common.{◌≡◌, ◌∷◌, length, map, refl, rules}
+use Rattle.std.proofs.Common.{◌≡◌, ◌∷◌, length, map, refl, rules, ◌∙◌, ap, Err}
+use Rattle.std.proofs.lemmas.Result.{err_from_is_err_and}
 use Rattle.sqlite_value.specs.declared.value.Value.TheVariants.{Null}
 use Rattle.sqlite.specs.Held.{state}
 use Rattle.std.specs.List.Sorted.{IsPermutation}
@@ -11,10 +12,14 @@ use Rattle.mr_rows.proofs.QueryLemmas.{told_so, looks_made}
 use Rattle.mr_rows.proofs.CauseLemmas.{made_fails, not_first_meta}
 use Rattle.mr_rows.proofs.FirstLemmas.{meta_is}
 use Rattle.mr_rows.proofs.RowOrder.{shown_rows}
+use Rattle.mr_rows.specs.Reads.{IsPlacedIn}
+use Rattle.mr_rows.proofs.CauseLemmas.{same_reads, same_error}
 use Rattle.mr_rows.proofs.meta_table.the_meta.Goals as goal
 
 pub returns-in_err-rows-clause-looks : goal.returns-in_err-rows-clause-looks
-returns-in_err-rows-clause-looks g c under two = let read = c.select_all_meta.ensures.looks under two in (read.0, read.1, λ clean here. (search rules, search rules))
+returns-in_err-rows-clause-looks g c under two =
+    let p = err_from_is_err_and c.from_residual.result c.from_residual.ensures.1 in
+    same_reads (IsPlacedIn under) (state g.S.Store c.args.conn.now) (state g.S.Store c.select_all_meta.new.conn) c.select_all_meta.result _ c.from_residual.result _ c.in_err-rows.field-0.0 (p.1 ∙ ap Err p.2) (c.select_all_meta.ensures.looks under two)
 
 pub returns-clause-looks : goal.returns-clause-looks
 returns-clause-looks g c under two =
@@ -27,7 +32,9 @@ returns-clause-looks g c under two =
     (c.in_ok-rows.ensures.looks under two)
 
 pub returns-in_err-rows-clause-cause : goal.returns-in_err-rows-clause-cause
-returns-in_err-rows-clause-cause g c under two = λ clean here rows. let told = c.select_all_meta.ensures.cause under two clean here tt in search rules
+returns-in_err-rows-clause-cause g c under two = λ clean here rows.
+    let p = err_from_is_err_and c.from_residual.result c.from_residual.ensures.1 in
+    same_error c.select_all_meta.result c.from_residual.result c.in_err-rows.field-0.0 _ c.in_err-rows.was (p.1 ∙ ap Err p.2) (c.select_all_meta.ensures.cause under two clean here tt)
 
 pub returns-clause-cause : goal.returns-clause-cause
 returns-clause-cause g c under two =

@@ -1,4 +1,6 @@
-use Rattle.std.proofs.Common.{◌≤◌, Bool, None, Ok, Some, Option, IsTrue, inl, inr, length, refl, rules}
+use Rattle.std.proofs.Common.{◌≤◌, Bool, None, Ok, Some, Option, IsTrue, inl, inr, length, refl, ◌∙◌, ap, Err}
+use Rattle.std.proofs.lemmas.Result.{err_from_is_err_and}
+use Rattle.std.specs.Prelude.{⊤}
 use Rattle.sqlite_trees.specs.Tree.{Trees}
 use Rattle.sqlite.specs.Held.{state}
 use Rattle.mr_model.specs.Tables.{Tables}
@@ -9,6 +11,8 @@ use Rattle.mr_rows.proofs.CauseLemmas.{looks_fail}
 use Rattle.mr_rows.proofs.QueryLemmas.{looks_made, looks_then}
 use Rattle.mr_sql.specs.Opening.{AreFoundHere}
 use Rattle.mr_sql.specs.Refused.{HasOtherNumber}
+use Rattle.mr_rows.proofs.CauseLemmas.{same_reads, same_fails}
+use Rattle.mr_rows.specs.Reads.{IsPlacedIn}
 use Rattle.mr_sql.proofs.adopt.find.Goals as goal
 
 found_here : (keep : Bool) (trees : Trees) (t : Option Tables) → AreAllFound keep trees t → AreFoundHere keep trees t
@@ -22,10 +26,14 @@ abbrev Asked : Trees → Type 0
 Asked trees = AreOurRows trees × (length (trees 0) ≤ 1)
 
 pub returns-in_err-is_other-clause-looks : goal.returns-in_err-is_other-clause-looks
-returns-in_err-is_other-clause-looks g c = let read = c.has_other_number.ensures.looks our_schema (inl refl) in (read.0, read.1, λ clean here. (search rules, search rules))
+returns-in_err-is_other-clause-looks g c =
+    let p = err_from_is_err_and c.from_residual.result c.from_residual.ensures.1 in
+    same_reads (IsPlacedIn our_schema) (state g.S.Store c.args.conn.now) (state g.S.Store c.has_other_number.new.conn) c.has_other_number.result _ c.from_residual.result _ c.in_err-is_other.field-0.0 (p.1 ∙ ap Err p.2) (c.has_other_number.ensures.looks our_schema (inl refl))
 
 pub returns-in_err-is_other-clause-cause : goal.returns-in_err-is_other-clause-cause
-returns-in_err-is_other-clause-cause g c = λ clean here rows. let told = c.has_other_number.ensures.cause our_schema (inl refl) clean here tt in search rules
+returns-in_err-is_other-clause-cause g c =
+    let p = err_from_is_err_and c.from_residual.result c.from_residual.ensures.1 in
+    λ clean here rows. same_fails (IsPlacedIn our_schema) (λ _. ⊤) (state g.S.Store c.args.conn.now) (state g.S.Store c.has_other_number.new.conn) c.has_other_number.result c.from_residual.result c.in_err-is_other.field-0.0 c.in_err-is_other.was (p.1 ∙ ap Err p.2) (c.has_other_number.ensures.cause our_schema (inl refl)) clean here tt
 
 pub returns-then-is_other-clause-looks : goal.returns-then-is_other-clause-looks
 returns-then-is_other-clause-looks g c =

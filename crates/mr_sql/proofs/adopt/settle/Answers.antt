@@ -10,3 +10,6 @@ returns g c =
     record {
       opening = unread_strange c.args.whose s (λ taken. strange_others c.args.whose s taken (c.if-is_blank.ensures.other refl) c.requires.others (c.if-is_first.ensures.other refl));
     }
+
+pub returns-then-is_first : goal.returns-then-is_first
+returns-then-is_first g c = record { opening = c.raise.ensures.opening }

@@ -1,4 +1,5 @@
-use Rattle.std.proofs.Common.{List, Ok, rules}
+use Rattle.std.proofs.Common.{List, Ok, ◌∙◌, ap, Err}
+use Rattle.std.proofs.lemmas.Result.{err_from_is_err_and}
 use Rattle.std.specs.Prelude.{bytes_eq, filter}
 use Rattle.std.specs.List.Sorted.{IsPermutation}
 use Rattle.sqlite_trees.specs.Tree.{Trees}
@@ -10,7 +11,9 @@ use Rattle.mr_rows.specs.Form.{booking_form}
 use Rattle.mr_rows.proofs.QueryLemmas.{reads_made, told_two}
 use Rattle.mr_rows.proofs.StreamedRows.{kept_looks}
 use Rattle.mr_sql.proofs.AnswerLemmas.{calendar_is}
-use Rattle.mr_sql.proofs.FailedReads.{alone, alone_made, memory_alone}
+use Rattle.mr_sql.proofs.FailedReads.{alone, alone_made, memory_alone, same_alone}
+use Rattle.mr_rows.proofs.CauseLemmas.{same_reads}
+use Rattle.mr_rows.specs.Database.{IsKept}
 use Rattle.mr_sql.proofs.answers.bookings_of.Goals as goal
 
 -- what is shown of a room
@@ -21,7 +24,8 @@ pub returns-in_err-rows-clause-reads : goal.returns-in_err-rows-clause-reads
 returns-in_err-rows-clause-reads g c =
     let old = state g.S.Store c.args.conn.now in
     let read = kept_looks old (state g.S.Store c.rows_in.new.conn) c.rows_in.result (λ rows. ShownOf c.args.room.now old.now.trees rows.items) c.rows_in.ensures.looks in
-    (read.0, read.1, λ clean kept. (search rules, search rules))
+    let p = err_from_is_err_and c.from_residual.result c.from_residual.ensures.1 in
+    same_reads IsKept (state g.S.Store c.args.conn.now) (state g.S.Store c.rows_in.new.conn) c.rows_in.result _ c.from_residual.result _ c.in_err-rows.field-0.0 (p.1 ∙ ap Err p.2) read
 
 pub returns-clause-reads : goal.returns-clause-reads
 returns-clause-reads g c =
@@ -32,7 +36,9 @@ returns-clause-reads g c =
     (kept_looks old new (Ok c.in_ok-rows.rows) (λ rows. ShownOf c.args.room.now old.now.trees rows.items) c.in_ok-rows.ensures.looks)
 
 pub returns-in_err-rows-clause-failed : goal.returns-in_err-rows-clause-failed
-returns-in_err-rows-clause-failed g c = λ clean kept r stands. let told = alone (state g.S.Store c.args.conn.now) (state g.S.Store c.rows_in.new.conn) c.rows_in.result (λ clean here rows. c.rows_in.ensures.cause clean here rows.0.booking) clean kept r stands in search rules
+returns-in_err-rows-clause-failed g c =
+    let p = err_from_is_err_and c.from_residual.result c.from_residual.ensures.1 in
+    same_alone (state g.S.Store c.args.conn.now) (state g.S.Store c.rows_in.new.conn) c.rows_in.result c.from_residual.result c.in_err-rows.field-0.0 c.in_err-rows.was (p.1 ∙ ap Err p.2) (alone (state g.S.Store c.args.conn.now) (state g.S.Store c.rows_in.new.conn) c.rows_in.result (λ clean here rows. c.rows_in.ensures.cause clean here rows.0.booking))
 
 pub returns-clause-failed : goal.returns-clause-failed
 returns-clause-failed g c =

@@ -15,3 +15,9 @@ returns-in-Err-clause-refused g c r is =
     let old = state g.S.Store c.args.conn in
     let new = state g.S.Store c.in-Err.conn in
     subst (λ e. HasCleanDisk new → HasCleanDisk old × RefusesToResume old.now.trees e new) same c.in-Err.ensures.refused
+
+pub returns-then-is_first-clause-refused : goal.returns-then-is_first-clause-refused
+returns-then-is_first-clause-refused g c r is = absurd (let never = is in cc)
+
+pub returns-in-Err-clause-first : goal.returns-in-Err-clause-first
+returns-in-Err-clause-first g c is = absurd (let never = is in cc)

@@ -1,4 +1,6 @@
-use Rattle.std.proofs.Common.{Bool, None, Ok, Some, Option, IsTrue, inl, inr, refl, rules}
+use Rattle.std.proofs.Common.{Bool, None, Ok, Some, Option, IsTrue, inl, inr, refl, ◌∙◌, ap, Err}
+use Rattle.std.proofs.lemmas.Result.{err_from_is_err_and}
+use Rattle.mr_rows.proofs.CauseLemmas.{same_reads}
 use Rattle.sqlite_trees.specs.Tree.{Trees}
 use Rattle.sqlite.specs.Held.{state}
 use Rattle.mr_model.specs.Tables.{MetaRow}
@@ -19,7 +21,11 @@ abbrev Other : Trees → Bool → Type 0
 Other trees other = IsTrue other → HasOtherNumber 1 trees
 
 pub returns-in_err-is_other : goal.returns-in_err-is_other
-returns-in_err-is_other g c = let read = c.has_other_number.ensures.looks first_schema (inr refl) in record { looks = (read.0, read.1, λ clean here. (search rules, search rules)) }
+returns-in_err-is_other g c =
+    let p = err_from_is_err_and c.from_residual.result c.from_residual.ensures.1 in
+    record {
+      looks = same_reads (IsPlacedIn first_schema) (state g.S.Store c.args.conn.now) (state g.S.Store c.has_other_number.new.conn) c.has_other_number.result _ c.from_residual.result _ c.in_err-is_other.field-0.0 (p.1 ∙ ap Err p.2) (c.has_other_number.ensures.looks first_schema (inr refl));
+    }
 
 pub returns-then-is_other : goal.returns-then-is_other
 returns-then-is_other g c =

@@ -1,4 +1,5 @@
-use Rattle.std.proofs.Common.{sym, ap, ◌∙◌, rules}
+use Rattle.std.proofs.Common.{sym, ap, ◌∙◌, Err}
+use Rattle.std.proofs.lemmas.Result.{err_from_is_err_and}
 use Rattle.sqlite.specs.Held.{state}
 use Rattle.mr_model.specs.Scopes.{in_scope}
 use Rattle.mr_part.specs.ScopeOf.{scope_of}
@@ -7,11 +8,15 @@ use Rattle.mr_rows.proofs.QueryLemmas.{uses_made, told_two}
 use Rattle.mr_sql.specs.Enough.{AreEnough}
 use Rattle.mr_tables.specs.Summary.{summary_of}
 use Rattle.mr_store.proofs.NextIds.{given_free}
-use Rattle.mr_sql.proofs.FailedReads.{alone_used, memory_alone}
+use Rattle.mr_sql.proofs.FailedReads.{alone_used, memory_alone, same_alone}
+use Rattle.mr_rows.proofs.CauseLemmas.{same_reads}
+use Rattle.mr_rows.specs.Reads.{IsInUse}
 use Rattle.mr_sql.proofs.load.load_part.Goals as goal
 
 pub returns-in_err-tables-clause-reads : goal.returns-in_err-tables-clause-reads
-returns-in_err-tables-clause-reads g c = let read = c.enough_for.ensures.reads in (read.0, read.1, λ clean held. (search rules, search rules))
+returns-in_err-tables-clause-reads g c =
+    let p = err_from_is_err_and c.from_residual.result c.from_residual.ensures.1 in
+    same_reads IsInUse (state g.S.Store c.args.conn.now) (state g.S.Store c.enough_for.new.conn) c.enough_for.result _ c.from_residual.result _ c.in_err-tables.field-0.0 (p.1 ∙ ap Err p.2) c.enough_for.ensures.reads
 
 pub returns-clause-reads : goal.returns-clause-reads
 returns-clause-reads g c =
@@ -24,7 +29,9 @@ returns-clause-reads g c =
     c.in_ok-tables.ensures.reads
 
 pub returns-in_err-tables-clause-failed : goal.returns-in_err-tables-clause-failed
-returns-in_err-tables-clause-failed g c = λ clean kept r stands. let told = c.enough_for.ensures.failed clean kept r stands in search rules
+returns-in_err-tables-clause-failed g c =
+    let p = err_from_is_err_and c.from_residual.result c.from_residual.ensures.1 in
+    same_alone (state g.S.Store c.args.conn.now) (state g.S.Store c.enough_for.new.conn) c.enough_for.result c.from_residual.result c.in_err-tables.field-0.0 c.in_err-tables.was (p.1 ∙ ap Err p.2) c.enough_for.ensures.failed
 
 pub returns-clause-failed : goal.returns-clause-failed
 returns-clause-failed g c =

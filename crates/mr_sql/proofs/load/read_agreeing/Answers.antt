@@ -1,4 +1,5 @@
-use Rattle.std.proofs.Common.{◌≡◌, true, ◌∙◌, sym, subst, rules}
+use Rattle.std.proofs.Common.{◌≡◌, true, ◌∙◌, sym, subst, ap, Err}
+use Rattle.std.proofs.lemmas.Result.{err_from_is_err_and}
 use Rattle.sqlite.specs.Held.{state}
 use Rattle.mr_rows.specs.Database.{tables_in}
 use Rattle.mr_rows.proofs.QueryLemmas.{uses_made, told_so}
@@ -7,11 +8,15 @@ use Rattle.mr_model.specs.Tables.{Stands}
 use Rattle.mr_model.proofs.KeyOrder.{tables_in_order}
 use Rattle.mr_agree.specs.Agreeing.{agree}
 use Rattle.mr_agree.proofs.TablesAgree.{standing_tables_agree}
-use Rattle.mr_sql.proofs.FailedReads.{alone_used, refused_alone}
+use Rattle.mr_sql.proofs.FailedReads.{alone_used, refused_alone, same_alone}
+use Rattle.mr_rows.proofs.CauseLemmas.{same_reads}
+use Rattle.mr_rows.specs.Reads.{IsInUse}
 use Rattle.mr_sql.proofs.load.read_agreeing.Goals as goal
 
 pub returns-in_err-tables-clause-reads : goal.returns-in_err-tables-clause-reads
-returns-in_err-tables-clause-reads g c = let read = c.all_tables.ensures.reads in (read.0, read.1, λ clean held. (search rules, search rules))
+returns-in_err-tables-clause-reads g c =
+    let p = err_from_is_err_and c.from_residual.result c.from_residual.ensures.1 in
+    same_reads IsInUse (state g.S.Store c.args.conn.now) (state g.S.Store c.all_tables.new.conn) c.all_tables.result _ c.from_residual.result _ c.in_err-tables.field-0.0 (p.1 ∙ ap Err p.2) c.all_tables.ensures.reads
 
 pub returns-clause-reads : goal.returns-clause-reads
 returns-clause-reads g c =
@@ -21,7 +26,9 @@ returns-clause-reads g c =
     c.in_ok-tables.ensures.reads
 
 pub returns-in_err-tables-clause-failed : goal.returns-in_err-tables-clause-failed
-returns-in_err-tables-clause-failed g c = λ clean kept r stands. let told = c.all_tables.ensures.failed clean kept r stands in search rules
+returns-in_err-tables-clause-failed g c =
+    let p = err_from_is_err_and c.from_residual.result c.from_residual.ensures.1 in
+    same_alone (state g.S.Store c.args.conn.now) (state g.S.Store c.all_tables.new.conn) c.all_tables.result c.from_residual.result c.in_err-tables.field-0.0 c.in_err-tables.was (p.1 ∙ ap Err p.2) c.all_tables.ensures.failed
 
 pub returns-clause-failed : goal.returns-clause-failed
 returns-clause-failed g c =

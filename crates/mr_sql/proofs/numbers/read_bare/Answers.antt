@@ -1,13 +1,18 @@
-use Rattle.std.proofs.Common.{◌≡◌, Ok, [], ◌∙◌, rules}
+use Rattle.std.proofs.Common.{◌≡◌, Ok, [], ◌∙◌, ap, Err}
+use Rattle.std.proofs.lemmas.Result.{err_from_is_err_and}
 use Rattle.sqlite.specs.Held.{state}
 use Rattle.mr_model.specs.Scopes.{Nothing, in_scope}
 use Rattle.mr_rows.specs.Database.{tables_in}
 use Rattle.mr_rows.proofs.QueryLemmas.{reads_made}
-use Rattle.mr_sql.proofs.FailedReads.{alone}
+use Rattle.mr_sql.proofs.FailedReads.{alone, same_alone}
+use Rattle.mr_rows.proofs.CauseLemmas.{same_reads}
+use Rattle.mr_rows.specs.Database.{IsKept}
 use Rattle.mr_sql.proofs.numbers.read_bare.Goals as goal
 
 pub returns-in_err-heads-clause-reads : goal.returns-in_err-heads-clause-reads
-returns-in_err-heads-clause-reads g c = let read = c.read_heads.ensures.reads in (read.0, read.1, λ clean kept. (search rules, search rules))
+returns-in_err-heads-clause-reads g c =
+    let p = err_from_is_err_and c.from_residual.result c.from_residual.ensures.1 in
+    same_reads IsKept (state g.S.Store c.args.conn.now) (state g.S.Store c.read_heads.new.conn) c.read_heads.result _ c.from_residual.result _ c.in_err-heads.field-0.0 (p.1 ∙ ap Err p.2) c.read_heads.ensures.reads
 
 pub returns-clause-reads : goal.returns-clause-reads
 returns-clause-reads g c =
@@ -28,4 +33,6 @@ returns-clause-reads g c =
     c.in_ok-heads.ensures.reads
 
 pub returns-in_err-heads-clause-failed : goal.returns-in_err-heads-clause-failed
-returns-in_err-heads-clause-failed g c = λ clean kept r stands. let told = alone (state g.S.Store c.args.conn.now) (state g.S.Store c.read_heads.new.conn) c.read_heads.result (λ clean here rows. c.read_heads.ensures.cause clean here (rows.0.meta, rows.1, rows.0.room, rows.0.vector)) clean kept r stands in search rules
+returns-in_err-heads-clause-failed g c =
+    let p = err_from_is_err_and c.from_residual.result c.from_residual.ensures.1 in
+    same_alone (state g.S.Store c.args.conn.now) (state g.S.Store c.read_heads.new.conn) c.read_heads.result c.from_residual.result c.in_err-heads.field-0.0 c.in_err-heads.was (p.1 ∙ ap Err p.2) (alone (state g.S.Store c.args.conn.now) (state g.S.Store c.read_heads.new.conn) c.read_heads.result (λ clean here rows. c.read_heads.ensures.cause clean here (rows.0.meta, rows.1, rows.0.room, rows.0.vector)))

@@ -1,14 +1,19 @@
-use Rattle.std.proofs.Common.{◌≡◌, true, rules}
+use Rattle.std.proofs.Common.{◌≡◌, true, ◌∙◌, ap, Err}
+use Rattle.std.proofs.lemmas.Result.{err_from_is_err_and}
 use Rattle.sqlite.specs.Held.{state}
 use Rattle.mr_store.specs.Answers.{IsAnswerTo}
 use Rattle.mr_rows.specs.Database.{tables_in}
 use Rattle.mr_sql.specs.Numbers.{do_numbers_agree}
 use Rattle.mr_sql.proofs.QuestionLemmas.{asked_with}
-use Rattle.mr_sql.proofs.FailedReads.{alone_then}
+use Rattle.mr_sql.proofs.FailedReads.{alone_then, same_alone}
+use Rattle.mr_rows.proofs.CauseLemmas.{same_reads}
+use Rattle.mr_rows.specs.Database.{IsKept}
 use Rattle.mr_sql.proofs.questions.query.Goals as goal
 
 pub returns-in_err-check_numbers-clause-reads : goal.returns-in_err-check_numbers-clause-reads
-returns-in_err-check_numbers-clause-reads g c = let read = c.check_numbers.ensures.reads in (read.0, read.1, λ clean kept. (search rules, search rules))
+returns-in_err-check_numbers-clause-reads g c =
+    let p = err_from_is_err_and c.from_residual.result c.from_residual.ensures.1 in
+    same_reads IsKept (state g.S.Store c.args.conn.now) (state g.S.Store c.check_numbers.new.conn) c.check_numbers.result _ c.from_residual.result _ c.in_err-check_numbers.field-0.0 (p.1 ∙ ap Err p.2) c.check_numbers.ensures.reads
 
 pub returns-clause-reads : goal.returns-clause-reads
 returns-clause-reads g c =
@@ -21,7 +26,9 @@ returns-clause-numbers g c =
     (do_numbers_agree (tables_in (state g.S.Store c.args.conn.now).now.trees) ≡ true) c.answer.result (λ db answer. IsAnswerTo c.args.question.now (tables_in db.trees) answer) c.in_ok-check_numbers.ensures.reads c.answer.ensures.reads).1
 
 pub returns-in_err-check_numbers-clause-failed : goal.returns-in_err-check_numbers-clause-failed
-returns-in_err-check_numbers-clause-failed g c = λ clean kept r stands. let told = c.check_numbers.ensures.failed clean kept r stands in search rules
+returns-in_err-check_numbers-clause-failed g c =
+    let p = err_from_is_err_and c.from_residual.result c.from_residual.ensures.1 in
+    same_alone (state g.S.Store c.args.conn.now) (state g.S.Store c.check_numbers.new.conn) c.check_numbers.result c.from_residual.result c.in_err-check_numbers.field-0.0 c.in_err-check_numbers.was (p.1 ∙ ap Err p.2) c.check_numbers.ensures.failed
 
 pub returns-clause-failed : goal.returns-clause-failed
 returns-clause-failed g c =

@@ -1,4 +1,4 @@
-use Rattle.std.proofs.Common.{◌∙◌, rules}
+use Rattle.std.proofs.Common.{◌∙◌, refl, rules}
 use Rattle.sqlite.proofs.Callers.{memory_is_clean}
 use Rattle.sqlite.specs.Steps.{over_memory}
 use Rattle.sqlite.specs.Held.{state}
@@ -15,3 +15,6 @@ returns-in-Ok-clause-made c =
 pub returns-in-Ok-clause-settled : goal.returns-in-Ok-clause-settled
 returns-in-Ok-clause-settled c =
     alone_first (state over_memory c.create_first.new.conn) (c.in-Ok.ensures.kept (memory_is_clean c.create_first.new.conn) c.in_ok-conn.ensures.empty.2) (λ db left. left)
+
+pub returns-then-not-are_keys_rising-clause-twice : goal.returns-then-not-are_keys_rising-clause-twice
+returns-then-not-are_keys_rising-clause-twice c twice = refl
