@@ -7,8 +7,8 @@ writes a script of about that many lines to the file SCRIPT, and to EXPECTED wha
 is the set of the writes that it knows and the list of commits; each answer replays a room's whole list from an empty calendar.
 Nothing is kept beside, and nothing is ever undone. What holds of every world is checked of the replicas after each exchange.
 
-The variable ROOMS_RULES of the environment chooses the rules of all tests in Python: `bookings` (where it isn't set), `cancels`, or
-`second` for cancels and the second exchange text.
+The variable ROOMS_RULES of the environment chooses the rules of all tests in Python: `second` for cancels and the second exchange
+text, if it isn't set; `bookings` and `cancels` are those of earlier programs.
 """
 
 import collections
@@ -21,7 +21,7 @@ import sys
 # How many alternatives a request may have, whether requests can be cancelled, and the exchange text that a replica asks for.
 Rules = collections.namedtuple('Rules', 'alternatives has_cancels version')
 RULES = {'bookings': Rules(8, False, 1), 'cancels': Rules(16, True, 1),
-         'second': Rules(16, True, 2)}[os.environ.get('ROOMS_RULES', 'bookings')]
+         'second': Rules(16, True, 2)}[os.environ.get('ROOMS_RULES', 'second')]
 # How many alternatives each version of the exchange text can say.
 MOST_TOLD = {1: 8, 2: 16}
 

@@ -26,7 +26,6 @@ import sys
 
 HERE = os.path.dirname(os.path.abspath(__file__))
 sys.path[1:1] = [HERE, os.path.join(HERE, '..', '..', 'oracle')]
-os.environ.setdefault('ROOMS_RULES', 'second')
 
 import stock
 from commands import answered, commands_for, words_for

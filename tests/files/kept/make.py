@@ -11,6 +11,7 @@ first.position; first.next, a batch that makes it undo and execute again; first.
 import os
 import sys
 
+os.environ['ROOMS_RULES'] = 'bookings'
 sys.path.insert(0, os.path.join(os.path.dirname(os.path.abspath(__file__)), '..', '..', 'oracle'))
 
 import wire

@@ -18,7 +18,6 @@ import sys
 import time
 import traceback
 
-os.environ.setdefault('ROOMS_RULES', 'second')
 sys.path.append(os.path.join(os.path.dirname(os.path.abspath(__file__)), '..'))
 sys.path.append(os.path.join(os.path.dirname(os.path.abspath(__file__)), '..', '..', 'hostile'))
 
