@@ -1,5 +1,5 @@
 //! The base types: days, slots, names, stamps, writes, batches, positions and refusals, each within its limits.
-//! It stands on `mr_model`; all other crates but `mr_disk` stand on it. README.md has lines of use, and what is proved.
+//! It stands on `mr_model`; all other crates with program code, but `mr_disk`, stand on it. README.md has lines of use, and what is proved.
 #![tactic(auto)]
 
 mod actions;
