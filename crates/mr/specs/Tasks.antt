@@ -74,8 +74,7 @@ pub record IsOpened {K : Type 0} (keeper : Ghosts K) (k : K) : Type 0 where
   pub opens : keeper.is_clean k → keeper.is_open k
   pub settled : keeper.is_clean k → IsSettled (keeper.may_leave k) (keeper.tables k)
 
--- as that of this server and primary: the tables of a replica that knows nothing yet, or those that were there, moved up where they were
--- of the first schema
+-- as that of this server and primary: its tables are those of a replica that knows nothing yet, or their `meta` names these two
 pub record IsOpenedFor {K : Type 0} (keeper : Ghosts K) (server primary : ℕ) (k : K) : Type 0 where
   pub opened : IsOpened keeper k
   pub tables : keeper.is_clean k

@@ -21,8 +21,8 @@ use std::alloc::Global;
 use std::io::Write;
 
 /// Does what the words after the program's name ask for, prints to the writer and answers the status: 0 if it was
-/// done, 1 if it was refused, 2 if the words are no command line, 3 if a file can't be had or the writer
-/// does not take a line.
+/// done; 1 if it was refused, a line of a script is bad or a peer answered another status than 200; 2 if the words are no command
+/// line, or the address is none; 3 if a file can't be had, the network fails or the writer doesn't take a line.
 pub fn command<W: Write>(rt: &HostRuntime, alloc: Global, words: &[String], out: &mut W) -> u8
     ensures within { result ≤ 3 }
     ensures asked { has_no_flag (map string_bytes words.now) ≡ true → (asked : Invoked) → invocation_of (map string_bytes words.now) ≡ Some asked

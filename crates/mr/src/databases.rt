@@ -47,7 +47,8 @@ fn say_made<K: Keeper, W: Write>(keeper: K, out: &mut W) -> (K, u8)
     (keeper, status)
 }
 
-/// Does the task with the replica of the database at this path. For a question the database's files are read and left as they are.
+/// Does the task with the replica of the database at this path. For a question the database's files are read and nothing is
+/// written, unless no copy will do: then the database itself is opened, and moved up if it is of the first schema.
 pub(crate) fn on_database<W: Write>(
     rt: &HostRuntime,
     alloc: Global,

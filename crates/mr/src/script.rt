@@ -38,7 +38,7 @@ impl<T: Drop> From<AllocFailed<T>> for ScriptFault {
     }
 }
 
-/// The steps that a script stands for.
+/// The steps of a script's lines. Empty lines and those that begin with # are passed over; the first bad line refuses the whole script.
 pub fn read_script(alloc: Global, bytes: &[u8]) -> Result<Vec<Step>, ScriptFault>
     ensures { MatchResult result (λ steps. ReadsAsScript bytes.now (Ok (map step_of steps.items))) (IsFaultOf bytes.now) }
 {

@@ -24,7 +24,7 @@ pub(crate) fn only_reads(task: &Task) -> bool
     }
 }
 
-/// Whether the task needs rows of writes that no query picks, so that those which an open reads are worth keeping.
+/// Of a task that only reads: whether it needs rows of writes that no query picks, so that those which an open reads are worth keeping.
 pub(crate) fn needs_rows(task: &Task) -> bool {
     match task {
         Task::Local(_) | Task::Import { .. } => false,

@@ -1,4 +1,4 @@
--- Each of these serves private clauses and proofs alone; what a reader trusts stands in mr_agree.
+-- Each of these but Parts serves private clauses and proofs alone; what a reader trusts stands in mr_agree.
 pub mod Tallies
 pub mod Apart
 pub mod KeyOrders

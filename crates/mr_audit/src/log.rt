@@ -28,7 +28,8 @@ fn widened(number: u64) -> u128
     u128::from(number)
 }
 
-/// Whether the log has each write that is not dropped, and no other one.
+/// Whether the log has, of the writes whose rows say if they are kept, those that are not dropped, and no other one (how many it has
+/// `is_log_whole` tests).
 pub(crate) fn does_log_agree(tables: &Tables) -> bool
     requires { AreByRisingId tables.now }
     ensures { result ≡ does_log_agree tables.now }
@@ -107,7 +108,7 @@ fn have_next(rows: &[LogRow], tables: &Tables) -> bool
     true
 }
 
-/// Whether of each write of these the number tells if it is in the log.
+/// Whether each of these writes is in the log exactly if its commit number isn't that of a dropped commit.
 fn are_kept_or_dropped<R: NoteRow>(rows: &[R], tables: &Tables) -> bool
     requires { AreByRisingId tables.now }
     ensures { result ≡ list_all (λ row. same_mark (is_in_log tables.now (R.id row)) (not (within 1 tables.now.meta.dropped (R.note row).seq))) rows.now }

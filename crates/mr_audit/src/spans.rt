@@ -5,7 +5,7 @@ ghost use Rattle.mr_agree.specs.Agreeing.{is_span, do_spans_agree};
 use mr_base::{Day, MINUTES_OF_A_DAY};
 use mr_tables::{BookingRow, CancelledRow, ErrorRow, Tables};
 
-/// Whether each booking ends on its day, and not before it begins.
+/// Whether each booking ends behind its start, by midnight of its day.
 pub fn do_spans_agree(tables: &Tables) -> bool
     ensures { result ≡ do_spans_agree tables.now }
 {

@@ -31,7 +31,7 @@ fn do_row_times_agree<R: NoteRow>(rows: &[R], tables: &Tables) -> bool
     true
 }
 
-/// Of a note its id and its time tell.
+/// The same of one row: its id and its time are enough.
 fn does_time_agree(tables: &Tables, id: WriteId, time: u64) -> bool
     ensures { result ≡ does_time_agree tables.now (record { id = id; time = time; seq = 0 }) }
 {

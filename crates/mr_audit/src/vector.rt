@@ -5,7 +5,8 @@ ghost use Rattle.mr_audit.specs.Tallies.{TellTheVector};
 use mr_tables::summary::{Summary, Tally};
 use mr_tables::{Tables, VectorRow};
 
-/// The numbers that the tables tell: those of `meta`, and of each server the tally that its first row has.
+/// The tally of each server, as its first row in `vector` has it, beside the server and the primary of `meta`, whose other numbers
+/// aren't taken over.
 pub fn summary_of(tables: &Tables) -> Summary
     ensures { TellTheVector tables.now.vector result.tallies }
 {

@@ -6,7 +6,7 @@ use crate::{Refusal, Slot};
 use std::alloc::Global;
 use std::marker::Model;
 
-/// The other slots that a request would take, in its order: as many as may be.
+/// The other slots that a request would take, in its order. How many there may be `Meeting::new` tests.
 #[derive(Debug, Drop)]
 pub struct Alternatives {
     slots: Vec<Slot>,
@@ -26,7 +26,7 @@ impl Alternatives {
         Alternatives { slots: list }
     }
 
-    /// Them as a slice.
+    /// The slots, the one that is to be tried first in front.
     pub fn as_slice(&self) -> &[Slot]
         ensures { result.now ≡ self.now }
     {

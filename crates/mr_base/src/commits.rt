@@ -33,6 +33,7 @@ impl CommitNumber {
         }
     }
 
+    /// From 1 to 999,999,999,999.
     pub fn number(self) -> u64
         ensures value { result ≡ self }
         ensures in_range { IsTrue (is_commit_number result) }

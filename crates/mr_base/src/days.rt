@@ -58,6 +58,7 @@ impl Day {
         self.day
     }
 
+    /// The weekday, by the calendar of `jiff`.
     pub fn weekday(&self) -> Weekday
         ensures { monday_zero result ≡ weekday_of self.now }
     {

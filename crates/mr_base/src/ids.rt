@@ -5,7 +5,7 @@ ghost use Rattle.mr_base.specs.Readings.{read_id, id_by_parts};
 use crate::{GREATEST_COUNT, GREATEST_SERVER, Refusal, ServerId, WriteId, read_number};
 
 impl WriteId {
-    /// Reads `<server>-<n>`, with both numbers in decimal without leading zeros. Any other text names no request.
+    /// Reads `<server>-<n>`, both numbers in decimal without leading zeros and within their limits. Any other text names no request.
     pub fn read(text: &str) -> Result<WriteId, Refusal>
         ensures value { result ≡ ok_or (read_id text.now) Refusal.NoSuchRequest }
         ensures written { IfOk result (λ id. text.now ≡ id_text id) }

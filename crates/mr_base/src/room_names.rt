@@ -50,6 +50,7 @@ impl RoomName {
         Ok(RoomName { text })
     }
 
+    /// 1 to 16 bytes of a-z, 0-9 and the hyphen.
     pub fn as_str(&self) -> &str
         ensures text { result.now ≡ self.now }
         ensures is_name { IsTrue (is_room_name self.now) }

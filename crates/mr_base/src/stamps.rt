@@ -34,6 +34,7 @@ impl ServerId {
         }
     }
 
+    /// From 1 to 99.
     pub fn number(self) -> u32
         ensures value { result ≡ self }
         ensures in_range { IsTrue (is_server result) }

@@ -46,6 +46,7 @@ impl Title {
         Ok(Title { text })
     }
 
+    /// 1 to 60 bytes from 0x20 to 0x7E, neither the first nor the last a space.
     pub fn as_str(&self) -> &str
         ensures text { result.now ≡ self.now }
         ensures is_title { IsTrue (is_title self.now) }

@@ -24,7 +24,7 @@ pub fn settlement_law()
 {}
 
 /// A batch is refused only if its maker has dropped what the other lacks, so never to or from the primary; and so all can converge and
-/// settle, from each honest world, with batches of any most of lines from 1 on.
+/// settle, from each honest world, with batches of at most so many lines, however few.
 pub fn meeting_law()
     ensures given { GivenUnlessTruncated }
     ensures primary { PrimaryGivesAndIsGiven }

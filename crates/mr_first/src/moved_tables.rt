@@ -37,7 +37,8 @@ fn moved_tables(alloc: Global, first: First) -> Result<Tables, Error>
     })
 }
 
-/// These tables, if their rows agree with each other. Else they are refused as a failure of the store.
+/// These tables, if their rows agree with each other and those of writes rise by id. Else they are refused as a failure of the store, unless
+/// memory runs out.
 pub fn agreeing(alloc: Global, tables: Tables) -> Result<Tables, Error>
     ensures same { IfOk result (λ agreeing. agreeing ≡ tables) }
     ensures agree { IfOk result (λ agreeing. agree tables ≡ true) }
@@ -74,7 +75,7 @@ pub fn agreeing_law()
     ensures agree { MovedTablesOfReplicasAgree }
 {}
 
-/// Nor are the rows that a keeper holds for a replica's first tables refused at all: where they are read to be moved up, it is the store that fails.
+/// No row that a keeper holds for a replica's first tables is refused: reading them to move them up fails only if the store does, or if memory runs out.
 pub fn moving_law()
     ensures { FirstTablesOfReplicasMoveUp }
 {}

@@ -39,7 +39,7 @@ impl Model for WriteRow {
 }
 
 impl WriteRow {
-    /// The id of the write.
+    /// The server and the count of the row's write.
     pub fn id(&self) -> WriteId
         ensures { result ≡ write_id self.now }
     {
@@ -74,7 +74,7 @@ impl Model for FirstUndoRow {
 }
 
 impl FirstUndoRow {
-    /// The id of the write.
+    /// The server and the count of the row's write.
     pub fn id(&self) -> WriteId
         ensures { result ≡ undo_id self.now }
     {

@@ -34,7 +34,7 @@ impl<T: Drop> From<AllocFailed<T>> for ReadFault {
 /// Why a connection came to nothing.
 #[derive(Clone, Copy, Debug, PartialEq, Eq, Error)]
 pub enum WebFault {
-    /// A read failed. No command was run.
+    /// A read failed, or there was no connection. A server that reports it ran no command; a client's peer may have done what it was asked.
     #[error("a read failed")]
     Read,
     /// A write failed. A prefix of the bytes went out, and a command that was served stands.

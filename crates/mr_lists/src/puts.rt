@@ -21,7 +21,8 @@ pub struct Puts<R> {
     behind: Vec<R>,
 }
 
-/// Makes equal rows, and the room to put them. If the table is in the order of its keys, they are put in that order.
+/// Makes equal rows, and the room to put them. If the table is in the order of its keys, and no two of
+/// the rows have one key, they are put in that order.
 pub fn prepare<R: TableRow>(
     alloc: Global,
     rows: &mut Vec<R>,

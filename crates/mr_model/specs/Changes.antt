@@ -100,7 +100,7 @@ abbrev pub takes_back : Replica → Write → Id → Bool
 takes_back r w id = cancels_it id w.action (place_of (add_write r w) w)
 
 -- The write becomes the last of the order; no other moves. A cancel that is Done takes its target's row from booking to cancelled,
--- with its mark; no other row changes.
+-- with its mark. The clock and the server's row of vector go on; no other row that was there changes.
 pub record SubmitChanges (r : Replica) (w : Write) : Type 0 where
   pub order : order_of (add_write r w) ≡ order_of r ++ w ∷ []
   pub place : place_of (add_write r w) w ≡ place_on (board_after [] (order_of r)) w
@@ -146,7 +146,7 @@ pub record CommitChanges (r : Replica) (k : ℕ) : Type 0 where
 abbrev pub after_truncate : Replica → ℕ → Replica
 after_truncate r n = record r { dropped = max r.dropped n }
 
--- rows of the log leave; nothing else changes
+-- rows of the log leave, and the number of dropped commits grows; nothing else changes
 pub record TruncateChanges (r : Replica) (n : ℕ) : Type 0 where
   pub dropped : (v : Write) → is_dropped (after_truncate r n) (id_of v) ≡ within 1 (max r.dropped n) (seq_of r v)
   pub meta : (tables_of (after_truncate r n)).meta ≡ record (tables_of r).meta { dropped = max r.dropped n }

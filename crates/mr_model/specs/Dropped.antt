@@ -9,7 +9,7 @@ abbrev pub Has : {A : Type 0} → A → List A → Type 0
 Has x [] = ⊥
 Has x (y ∷ ys) = (x ≡ y) ⊎ Has x ys
 
--- no table keeps of a dropped booking its time, its alternatives and, where it was not logged, its wish and its commit number; of a
+-- no table keeps of a dropped booking its alternatives and, if it was not logged, its time, its wish and its commit number; of a
 -- dropped cancel the tables keep all
 pub record DifferInDropped (a b : Replica) : Type 0 where
   pub server : a.server ≡ b.server

@@ -86,7 +86,7 @@ of_committed (Some c) = if c.is_committed then Some c else None
 abbrev pub as_committed : Told → Told
 as_committed t = record { write = t.write; is_committed = t.is_committed; place = t.place; cancelled_by = of_committed t.cancelled_by }
 
--- the committed list is the committed part of the whole one, where a tentative cancel took nothing back
+-- the committed list is the committed part of the whole one, told as if tentative cancels took nothing back
 abbrev pub CommittedListIsAPart : Type 0
 CommittedListIsAPart = (v : View) → committed_list v ≡ map as_committed (filter (λ t. t.is_committed) (whole_list v))
 
@@ -121,7 +121,7 @@ EqualViewsAnswerAlike =
     (a b : Replica) (room : Text) (question : Question)
     → view_of a room ≡ view_of b room → (step a (Ask room question)).reply ≡ (step b (Ask room question)).reply
 
--- an opening replica holds what every replica holds, and so does each that steps lead to
+-- what holds of every replica holds of an opening one, and of each that steps lead to
 abbrev pub OpeningsAreReplicas : Type 0
 OpeningsAreReplicas = (server primary : ℕ) → IsTrue (is_server server) → IsTrue (is_server primary) → IsReplica (opening server primary)
 
@@ -234,11 +234,11 @@ FailuresAreSteps = (t : Tables) (command : Command) (reply : Reply) → IsOfMach
 
 -- ---- the rows of tables
 
--- the rows of each table of requests stand by rising id, none twice
+-- the rows of each table of writes stand by rising id, none twice
 abbrev pub TablesStandInKeyOrder : Type 0
 TablesStandInKeyOrder = (r : Replica) → IsReplica r → AreInKeyOrder (tables_of r)
 
--- its rows are those of the known writes
+-- the rows of each table are those of the known writes, and vector's those of the servers that have some
 abbrev pub TablesHaveRowsOfKnown : Type 0
 TablesHaveRowsOfKnown = (r : Replica) → IsReplica r → HasRowsOfKnown r
 
@@ -267,7 +267,7 @@ RoomsReplayApartOnBoards =
     → (places_of_room room writes (replay_on board writes) ≡ replay_among (bookings_in room board) (of_room room writes))
     × (bookings_in room (board_after board writes) ≡ after (bookings_in room board) (of_room room writes))
 
--- one write more goes where the bookings that stand after those before it say, whose places stay
+-- one write more goes where the bookings that stand after the writes before it let it; these keep their places
 abbrev pub OneWriteMore : Type 0
 OneWriteMore = (writes : List Write) (w : Write) → replay (writes ++ w ∷ []) ≡ replay writes ++ place_among (after [] writes) w ∷ []
 
@@ -302,7 +302,7 @@ OwnPositionIsReadBack =
     → (is_position (position_of r) ≡ true) × ((position_of r).version ≡ Second)
     × (read_position (position_text (position_of r)) ≡ Some (position_of r))
 
--- so a replica that is asked by another's position text gives the batch that is made for it
+-- so a replica that is asked by another's position text replies as to that position: with its batch, or with a refusal
 abbrev pub PositionTextsAsk : Type 0
 PositionTextsAsk =
     (r asker : Replica) (max_lines : ℕ) → IsReplica asker

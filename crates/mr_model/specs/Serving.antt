@@ -25,7 +25,7 @@ Answered old commands replies new =
     → (at : Replica) × IsRun old (take i commands) (take i replies) at × IsRun at (drop i commands) (drop i replies) new
     × ((reply ≡ answer room (view_of at room) question) ⊎ IsOfMachine reply)
 
--- the headline: whichever replica the tables stood for, there is one run from it that answers so, to whose end they stand now
+-- the headline: whichever replica the tables stood for, there is one run from it that answers so, and they stand for its end now
 abbrev pub Serves : Tables → List Command → List Reply → Tables → Type 0
 Serves before commands replies after =
     (a : Replica) → Stands before a

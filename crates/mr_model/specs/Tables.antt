@@ -22,12 +22,13 @@ pub record VectorRow : Type 0 where
   pub last_time : ℕ
   pub committed : ℕ
 
--- what a row of the log has of a write: the meeting that it books, or the target that it cancels
+-- what a row of the log has of a meeting
 pub record MeetingCells : Type 0 where
   pub length : ℕ
   pub choices : Text
   pub title : Text
 
+-- what it has of a write: the meeting that it books, or the target that it cancels
 pub data ActionCells : Type 0 where
   OfMeeting : (meeting : MeetingCells) → ActionCells
   OfCancel : (target : Id) → ActionCells

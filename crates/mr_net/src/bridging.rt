@@ -158,7 +158,7 @@ impl<C: Keeper, S: Keeper> Peer for Neighbour<'_, C, S> {
     }
 }
 
-/// Exchanges the databases, the first as the client, prints a line for each way, and answers the status: 0 if both were gone, 1
+/// Exchanges the databases, the first as the client, prints a line for each way, and answers the status: 0 if both went to their end, 1
 /// if a database or the client's replica refused or the server answered another status than 200, 3 if the network or the
 /// writer failed.
 pub fn bridge<W: Write>(

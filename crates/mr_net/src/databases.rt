@@ -7,7 +7,7 @@ use mr_service::Service;
 use mr_store::{Cached, Keeper};
 use std::alloc::Global;
 
-/// The replica of this keeper. Its rows are read once, at the first command.
+/// The replica of this keeper. Its rows are read at the first command, and again after a change that failed or that memory didn't take.
 pub(crate) fn remembered<K: Keeper>(alloc: Global, keeper: K) -> Service<Cached<K>>
     ensures { result ≡ keeper }
 {

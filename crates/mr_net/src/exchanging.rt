@@ -139,8 +139,8 @@ impl<K: Keeper> Peer for Remote<'_, K> {
     }
 }
 
-/// Exchanges the database with the peer at the address, prints a line for each way, and answers the status: 0 if both were gone,
-/// 1 if the database, its replica or the peer refused, 2 if the address is none, 3 if the network or the writer failed.
+/// Exchanges the database with the peer at the address, prints a line for each way, and answers the status: 0 if both went to their
+/// end, 1 if the database, its replica or the peer refused, 2 if the address is none, 3 if the network or the writer failed.
 pub fn exchange<W: Write>(
     rt: &HostRuntime,
     alloc: Global,

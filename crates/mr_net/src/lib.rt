@@ -1,4 +1,4 @@
-//! Commands over sockets: `serve`, `exchange` and `bridge`. What a socket gives and takes is tested alone.
+//! Commands over sockets: `serve`, `exchange` and `bridge`. No clause says what a socket gives and takes; tests try it.
 //! It stands on `mr_web`, `mr_peer`, `mr_sql` and `mr_words`; `mr` stands above. README.md says what is proved.
 #![tactic(auto)]
 

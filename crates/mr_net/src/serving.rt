@@ -20,8 +20,8 @@ use std::io::Write;
 use std::net::{Ipv4Addr, TcpListener};
 
 /// Serves the database to that many connections at the port of this machine alone, one after the other, prints a line for each, and
-/// answers the status: 0 if all were served or failed, 1 if the database is refused, 3 if the port can't be had or the
-/// writer fails.
+/// answers the status: 0 if all were served or failed, 1 if the database is refused or there is no memory for a line, 3 if
+/// the port can't be had or the writer fails.
 pub fn serve<W: Write>(
     rt: &HostRuntime,
     alloc: Global,

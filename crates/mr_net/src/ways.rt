@@ -35,7 +35,7 @@ pub(crate) trait Peer {
     // what a round of a way may come to, from the peer as it was to the peer as it then is
     ghost runs: { Way → Self → Result Round WebFault → Self → Type 0 };
 
-    /// One round: a batch is taken from the peer, or handed to it behind its position.
+    /// One round: a batch is taken from the peer; or the peer tells its position, and a batch is handed to it.
     fn round(&mut self, way: Way) -> Result<Round, WebFault>
         ensures { runs way self.old result self.new };
 }

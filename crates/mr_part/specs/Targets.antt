@@ -24,7 +24,7 @@ same_by None None = true
 same_by (Some c) (Some d) = same_id c d
 same_by _ _ = false
 
--- the row of a booking, where that cancel took it back before, and another one does now
+-- the row of a booking, if what takes it back isn't what it was
 abbrev pub row_if_moved : List Tally → Option Id → Id → Option Row → List PlaceRow
 row_if_moved ts was target None = []
 row_if_moved ts was target (Some row) = if same_by was (canceller_on row.trace) then [] else cons_option (board_place ts target row) []
@@ -33,7 +33,7 @@ abbrev pub target_if_moved : List Tally → Option Id → Rows → Text → Acti
 target_if_moved ts was b room (Books m) = []
 target_if_moved ts was b room (Cancels target) = row_if_moved ts was target (if_of room (row_at b target))
 
--- of what these writes cancel, those that another cancel takes back now
+-- of what these writes cancel, the rows of those for which that has changed
 abbrev pub moved_target : List Tally → Rows → Rows → Write → List PlaceRow
 moved_target ts old new w = target_if_moved ts (taken_by old w) new w.room w.action
 

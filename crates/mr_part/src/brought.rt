@@ -15,7 +15,7 @@ pub(crate) struct Brought {
     pub commits: BTreeMap<u64, WriteId>,
 }
 
-/// What these items bring, as far as memory takes it.
+/// What these items bring, or None if memory doesn't take all of it.
 pub(crate) fn brought_if_any(alloc: Global, items: &[Item]) -> Option<Brought>
     ensures { IsBroughtIfAny result (map item_of items.now) }
 {

@@ -27,7 +27,7 @@ use mr_tables::summary::Summary;
 use std::alloc::Global;
 use std::marker::Model;
 
-/// The numbers, rooms and kept writes of a part or a desk, with the items of a batch that are taken so far. A batch is taken whole or
+/// The numbers, rooms and kept writes of a part, with the items of a batch that are taken so far. A batch is taken whole or
 /// not at all. Rooms and writes stand in ordered sets, so that an item costs a logarithm.
 #[derive(Drop)]
 struct Candidate {

@@ -11,15 +11,15 @@ use mr_base::{Item, Refusal, Write, WriteId};
 use mr_tables::summary::Summary;
 use std::alloc::Global;
 
-/// The places of kept rows, and what a batch brings, as far as memory takes them.
+/// The places of kept rows, and what a batch brings, each if memory takes it.
 #[derive(Drop)]
 struct Found {
     rows: Option<RowPlaces>,
     brought: Option<Brought>,
 }
 
-/// Why the first line of a batch that is refused is refused, by the numbers and kept writes before it. That doesn't hang on memory: what it doesn't
-/// take is searched one after the other.
+/// The refusal of the first line that is refused, by the numbers and kept writes before the batch. It doesn't depend on memory: what memory
+/// doesn't take as a map is searched as a list.
 pub(crate) fn due_line(
     alloc: Global,
     summary: &Summary,

@@ -95,8 +95,7 @@ pub fn kept_row(alloc: Global, log: &LogRow) -> Result<KeptRow, Refusal>
     }
 }
 
-/// The kept write of a row of `log` that was read as this write. Of a row that is that of no write nothing is known of what was
-/// read, so all columns are compared, but for the text of the choices, since others may tell the same ones.
+/// The kept write of a row of `log` that was read as this write. All columns but the choices are compared.
 fn kept_of(write: Write, log: &LogRow) -> Result<KeptRow, Refusal>
     ensures kept { is_of_row write log.now ≡ true → result ≡ Ok (kept_row_with write log.now.seq log.now.place) }
     ensures told { IfOk result (λ row. kept_without_choices row ≡ without_choices log.now) }

@@ -17,10 +17,9 @@ use mr_tables::Change;
 use mr_tables::summary::Summary;
 use std::alloc::Global;
 
-/// What a batch changes in the tables that leads from these numbers and known rooms to what is reached: over the board, which has the
-/// bookings that it needs, these executions are undone, and these writes are executed, the new commits first, room by room. A write that
-/// gets the place and the number that it had keeps its row in the log, and isn't put; a booking that they cancel is put alone, if
-/// another cancel took that back before.
+/// What a batch changes in the tables. It leads from the old numbers and known rooms to what is reached. The board has the bookings that
+/// it needs: over it, room by room, the executions in `undone` are undone and the writes in `again` are executed, new commits first. A
+/// write that keeps its place and its number isn't put; a booking that they cancel is, if what takes it back has changed.
 pub(crate) fn moved(
     alloc: Global,
     old: &Summary,

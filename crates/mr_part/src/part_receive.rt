@@ -34,7 +34,7 @@ impl Part {
     /// changes in the tables. The part is used up: what it has is moved, and not copied.
     pub fn receive(self, batch: &Batch) -> Result<(u64, u64, Change), Refusal>
         ensures step { TakesPart (OfItems batch.now.items) (λ a. receive_batch a batch.now) (λ _ taken. Took taken.0 taken.1) (λ taken. taken.2) self result }
-        // A batch without a header takes no memory, nor does a refusal, be it for the header or for a line.
+        // A batch without a header takes no memory. A refusal, for the header or for a line, comes even if there is none.
         ensures empty { batch.now.header ≡ None → (change : ChangeView) × (result ≡ Ok (0, 0, change)) }
         ensures due { (h : Header) → batch.now.header ≡ Some h → h.primary ≢ self.summary.primary → result ≡ Err Refusal.WrongPrimary }
         ensures refused { (a : Replica) (r : RefusalOfBatch) → IsReplica a → IsPartOf self (OfItems batch.now.items) a

@@ -91,7 +91,7 @@ fn booking_row(
     })
 }
 
-/// The rows that a write puts beside its own, if this undoes it, on the board in front of it: that of the booking that it took
+/// The rows that a write puts beside its own, if `undo` undoes it and the board is the one before it: that of the booking that it took
 /// back, if it is a cancel that is done.
 pub fn taken_rows(
     alloc: Global,

@@ -10,7 +10,7 @@ use std::collections::BTreeMap;
 /// The places of kept rows, from 0, by the ids of their writes.
 pub(crate) type RowPlaces = BTreeMap<WriteId, usize>;
 
-/// The places of these rows, as far as memory takes them.
+/// The places of these rows, or None if memory doesn't take them all.
 pub(crate) fn places_if_any(alloc: Global, kept: &[KeptRow]) -> Option<RowPlaces>
     ensures { ArePlacesIfAny result kept.now }
 {

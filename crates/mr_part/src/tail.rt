@@ -11,7 +11,7 @@ use mr_base::{Item, ServerId};
 pub enum Tail {
     /// All of them: the batch has a new commit.
     Everything,
-    /// Those at or behind this time and server: the stamp of the first write of the batch.
+    /// Those at or behind this time and server: the least stamp of the batch's writes.
     From(u64, ServerId),
     /// None: the batch has neither.
     Nothing,

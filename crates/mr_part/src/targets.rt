@@ -56,7 +56,8 @@ fn if_of<'a>(row: Option<&'a Row>, room: &RoomName) -> Option<&'a Row>
     }
 }
 
-/// The rows of the bookings that these writes cancel, as the board tells them, if other cancels took these back before.
+/// The rows of the bookings that these writes cancel, as the board tells them, if what takes them back isn't what it was: another cancel,
+/// or one and before none, or none any more.
 pub fn moved_targets(
     alloc: Global,
     summary: &Summary,
@@ -76,7 +77,7 @@ pub fn moved_targets(
     Ok(rows)
 }
 
-/// Adds the row of the booking that the write cancels, if another cancel took it back before.
+/// Adds the row of the booking that the write cancels, if what takes it back has changed.
 fn push_if_moved(
     rows: &mut Vec<PlaceRow>,
     alloc: Global,
@@ -101,7 +102,7 @@ fn push_if_moved(
     Ok(())
 }
 
-/// The row of a booking, if another cancel took it back before.
+/// The row of a booking, if what takes it back has changed.
 fn row_if_moved(
     alloc: Global,
     summary: &Summary,

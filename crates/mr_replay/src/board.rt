@@ -131,7 +131,7 @@ impl Board {
         let _ = &self.rows;
     }
 
-    /// Whether no booking of the room overlaps the slot with this length in minutes.
+    /// Whether no booking of the room that stands overlaps the slot with this length in minutes.
     pub fn check(&self, room: &RoomName, slot: Slot, length: u32) -> bool
         ensures test { result ≡ is_free (bookings_of room.now self.now) length slot }
         ensures meaning { IsTrue result ↔ IsFree room.now slot length self.now }
@@ -139,7 +139,7 @@ impl Board {
         self.check_but(&BTreeSet::new(self.alloc), room, slot, length)
     }
 
-    /// Whether no booking of the room overlaps the slot, those of the hidden ids aside.
+    /// Whether no booking of the room that stands overlaps the slot, those of the hidden ids aside.
     pub(crate) fn check_but(
         &self,
         hidden: &Hidden,

@@ -19,7 +19,7 @@ pub(crate) trait Bookings {
     fn row(&self, id: WriteId) -> Option<&Row>
         ensures { option_copied result ≡ row_at (rows self.now) id };
 
-    /// Whether no booking of the room overlaps the slot with this length in minutes.
+    /// Whether no booking of the room that stands overlaps the slot with this length in minutes.
     fn is_free(&self, room: &RoomName, slot: Slot, length: u32) -> bool
         ensures { result ≡ is_free (bookings_of room.now (rows self.now)) length slot };
 

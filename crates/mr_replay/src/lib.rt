@@ -36,7 +36,7 @@ pub fn board_law()
 
 /// What executing writes notes of them is what their list says: their ids, and the places that the replay gives them. So
 /// executing a whole order and taking a room's places is replaying that room's part of it. On a board that has a room's
-/// bookings alone, replaying the room's last writes gives them these places too.
+/// bookings, whatever others, replaying the room's last writes gives them these places too.
 pub fn undo_row_law()
     ensures list { UndoRowsAreOfTheList }
     ensures room { UndoRowsAreOfTheRoom }

@@ -83,7 +83,7 @@ impl SeenBoard {
         }
     }
 
-    /// Whether no booking of the room that is seen overlaps the slot, those of the hidden ids aside.
+    /// Whether no booking of the room that is seen and stands overlaps the slot, those of the hidden ids aside.
     pub(crate) fn check_but(
         &self,
         hidden: &Hidden,
@@ -109,7 +109,7 @@ impl SeenBoard {
         }
     }
 
-    /// How many rows are seen. They are counted, one by one.
+    /// How many rows are seen. If the board is shared, each of its rows is looked at.
     pub fn len(&self) -> usize
         ensures { result ≡ length self.now }
     {
@@ -164,7 +164,7 @@ fn merge_in_rooms(board: &Board, rooms: &BTreeSet<RoomName>, write: &Write) -> P
     Board::new(board.alloc).merge(write)
 }
 
-/// Whether no booking of the room overlaps the slot, if the room is one of these: no other has bookings.
+/// Whether no booking of the room that stands overlaps the slot, if the room is one of these: of another none is seen.
 fn check_in_rooms(
     board: &Board,
     rooms: &BTreeSet<RoomName>,

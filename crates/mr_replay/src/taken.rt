@@ -12,7 +12,7 @@ use crate::rows::{Hidden, Rows};
 use mr_base::{RoomName, Slot, WriteId, overlaps};
 use std::collections::{BTreeMap, BTreeSet};
 
-/// Whether no booking of the room overlaps the slot, those of the hidden ids aside.
+/// Whether no booking of the room that stands overlaps the slot, those of the hidden ids aside.
 pub(crate) fn is_free(
     rows: &Rows,
     index: &Index,
@@ -27,7 +27,7 @@ pub(crate) fn is_free(
     !is_taken(rows, index, hidden, room, slot, length)
 }
 
-/// Whether some booking of the room overlaps the slot, those of the hidden ids aside.
+/// Whether some booking of the room that stands overlaps the slot, those of the hidden ids aside.
 fn is_taken(
     rows: &Rows,
     index: &Index,
@@ -50,7 +50,7 @@ fn is_taken(
     false
 }
 
-/// Whether the row of this id is a booking of the room that overlaps the slot, and isn't hidden.
+/// Whether the row of this id is a booking of the room that stands and overlaps the slot, and isn't hidden.
 fn is_row_in_the_way(
     rows: &Rows,
     hidden: &Hidden,

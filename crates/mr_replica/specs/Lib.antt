@@ -1,2 +1,2 @@
--- A reader of the contracts trusts Desk, and of mr_part Desk, Steps, DueLines and Turning.
+-- A reader of the contracts trusts Desk, and of mr_part Answering, Steps, Parts and ScopeOf.
 pub mod Desk

@@ -130,8 +130,8 @@ impl Desk {
     }
 
     /// What a replica at this position lacks: the commits above its own, each behind its write if that is lacked, then
-    /// the tentative writes that it lacks, so many lines at most, in the position's version. It is refused if one of the commits
-    /// is dropped, and if that version can't say one of these writes, which the second always can.
+    /// the tentative writes that it lacks, so many lines at most, in the position's version. It is refused if the position is of
+    /// another primary, if one of the commits is dropped, and if that version can't say one of these writes, which the second always can.
     pub fn batch(&self, position: &Position, max_lines: LineCount) -> Result<Batch, Refusal>
         ensures step { DeskTakesStep (λ a. leave a (batch_reply a position.now max_lines)) (λ _ batch. BatchIs batch) self.now result self.now }
         ensures own { (a : Replica) → StandsFor self.now a → NeverStore result }

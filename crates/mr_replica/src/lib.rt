@@ -10,8 +10,8 @@ ghost use Rattle.mr_part.specs.Steps.{SubmissionsAreRequests, CancelsAreRequests
 
 pub use desk::Desk;
 
-/// A submission in words, if nothing is at fault with these, is the request that they make; a cancel in words, if the first
-/// are a room's name, is that of the id in the others, or is refused if these are none.
+/// A submission in words, if nothing is wrong with them, is the request that they make. A cancel in words whose first word is a room's
+/// name is that of the id in the second, or is refused if that is none.
 pub fn submission_law()
     ensures submission { SubmissionsAreRequests }
     ensures cancellation { CancelsAreRequests }

@@ -72,7 +72,7 @@ is_log_row w =
 
 -- ---- what became of it
 
--- what rows of `booking`, `errorlog` and `cancelled` begin with: a slot ends on its day, and not before it begins
+-- what rows of `booking`, `errorlog` and `cancelled` begin with: a slot ends behind its start, by midnight of its day
 abbrev pub is_slot_row : Text → Date → ℕ → ℕ → ℕ → ℕ → Text → Bool
 is_slot_row room day start stop server n title =
     is_room_name room && is_date day && within 0 1439 start && within (start + 1) 1440 stop && is_server server && is_count n && is_title title

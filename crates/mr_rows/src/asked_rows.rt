@@ -35,7 +35,7 @@ pub trait AskedRow: StoredRow {
 
     ghost id_of: { Self → Id };
 
-    /// What is asked.
+    /// The two texts: in one ?1 is the room; in the other ?1 and ?2 are the server and the count of the id.
     fn asked() -> AskedTexts
         ensures room { (room : Name) → AsksFor Self.form result.of_room.now (Text room ∷ []) (λ row. bytes_eq (room_of row) room) }
         ensures id { (id : Id) → AsksFor Self.form result.of_id.now (Int (pos id.server) ∷ Int (pos id.n) ∷ []) (λ row. is_among (id_of row) (id ∷ [])) };

@@ -30,7 +30,7 @@ fn broken(refusal: Refusal, at: usize) -> Error
     }
 }
 
-/// Nothing, if a row passed its test.
+/// Ok if a row passed its test, else an error.
 pub fn passes(passed: bool) -> Result<(), Error>
     ensures ok { OnOk result (IsTrue passed) }
     ensures refused { IfErr result (λ _. passed ≡ false) }
@@ -175,7 +175,7 @@ pub(crate) fn has_server(row: &Row, at: usize) -> bool
     has_number(row, at, 1, u64::from(GREATEST_SERVER))
 }
 
-/// The small number in this column.
+/// The number below 2 to the 32nd in this column.
 pub fn read_u32(row: &Row, at: usize) -> Result<u32, Error>
     ensures number { IfOk result (λ number. number ≡ nat_of (column row.now at)) }
     ensures cell { IfOk result (λ number. column row.now at ≡ Int (pos number)) }

@@ -62,7 +62,7 @@ pub fn put_cell<'a, V: ToSql<'a>>(
     Ok(cells.push(own_value(alloc, value.to_sql())?)?)
 }
 
-/// A number from `LOW` to `HIGH`: another is refused when it is read, and put as it is.
+/// A number from `LOW` to `HIGH`. Another is refused when it is read; when it is put, only one from 2 to the 63rd on is.
 #[derive(Drop)]
 pub struct Within<const LOW: u64, const HIGH: u64>(pub u64);
 

@@ -19,8 +19,8 @@ use mr_tables::{BookingRow, CancelRow, CancelledRow, ErrorRow, LogRow, Tables, V
 use sqlite::{Alter, Error, ErrorCode, Row};
 use std::alloc::Global;
 
-// One pass over all rows of all tables tests each, so that a row that breaks the table's rules or the limits is found. They come one at a time, and
-// are read if they are to be kept; else nothing is made of them.
+// One pass over all rows of all tables tests each, so that a row that breaks the table's rules or the limits is found. Rows of tables that
+// may have many come one at a time, and are read if they are to be kept; those of `meta`, `write_log` and `undo` are listed whole.
 
 /// Takes a row that a query shows: it is tested, and if it is to be kept it is read and put behind those that are there.
 fn take_row<R: StoredRow>(
@@ -156,8 +156,8 @@ type Board = (Vec<BookingRow>, Vec<ErrorRow>);
 
 type Cancels = (Vec<CancelledRow>, Vec<CancelRow>);
 
-/// Finds the row of `meta`, if there is one, and that all rows of all tables keep the tables' rules and the limits. It answers the tables
-/// that `meta` is of, with all their rows if these are to be kept, and with no others if not.
+/// Finds the row of `meta`, if there is one, and that all rows of all tables keep the tables' rules and the limits. If `meta` has a row,
+/// the answer is tables with that row, and with all other rows if these are to be kept; if not, without others.
 pub fn find_all<S: Alter>(
     conn: &mut Idle<S>,
     alloc: Global,

@@ -3,8 +3,8 @@
 use sqlite::{Alter, Connection};
 use std::marker::Model;
 
-/// A connection that is in no transaction. Contracts see it as the connection. Who borrows the connection itself, to ask or to make a transaction, has
-/// to leave it in none.
+/// A connection that is in no transaction. Contracts see it as the connection. If you borrow the connection itself, to ask or to make
+/// a transaction, leave it in none.
 #[derive(Drop)]
 pub struct Idle<S: Alter> {
     pub connection: Connection<S>,

@@ -35,7 +35,8 @@ pub fn limits_law()
     ensures { LimitsAreKept }
 {}
 
-/// The rows that a keeper holds for a replica are rows as the readers want them, and `meta` has one, so that only the store makes reading them fail.
+/// The rows that a keeper holds for a replica are rows as the readers want them, and `meta` has one. So reading them fails
+/// only if the store does, or if memory runs out.
 pub fn rows_law()
     ensures { HeldRowsAreOurs }
 {}

@@ -43,7 +43,7 @@ pub fn find_meta<S: Alter>(conn: &mut Idle<S>, number: u32) -> Result<Option<Met
     only_meta(&rows, number)
 }
 
-/// The row of `meta`.
+/// The first row of `meta`. It is an error if there is none; that there are others is not noticed here.
 pub fn the_meta<S: Alter>(conn: &mut Idle<S>, number: u32) -> Result<MetaRow, Error>
     ensures looks { (under : Schema) → IsOfTwo under → LooksIn under (state S.Store conn.old) (state S.Store conn.new) result
         (λ row. IsHeld (meta_form_of number) ((state S.Store conn.old).now.trees 0)

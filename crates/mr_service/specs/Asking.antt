@@ -1,4 +1,4 @@
--- What a call of a service is, beside its step: what it counts of failures, and where it stands in a run.
+-- What a reply says beside its step: which failures are counted, what a refusal leaves, and which fault of words it tells.
 use Rattle.std.specs.Prelude.{◌≡◌, ℕ, ◌<◌, ◌≤◌, ◌⊎◌, List, [], ◌∷◌, Some}
 use Rattle.mr_model.specs.Replica.{Replica}
 use Rattle.mr_model.specs.Refusals.{Refusal, Store, first_refusal}

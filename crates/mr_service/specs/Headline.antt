@@ -1,4 +1,4 @@
--- The headline of one command and of a list of commands, in both halves.
+-- The headline of one command and of a list of commands: replies are the view's answers, alike at all replicas with an equal view.
 use Rattle.std.specs.Prelude.{◌≡◌, ℕ, ◌⊎◌, List, take, drop, Some, slice_get}
 use Rattle.mr_model.specs.Texts.{Text}
 use Rattle.mr_model.specs.Replica.{Replica}

@@ -27,7 +27,7 @@ abbrev pub room_fault : List Text → Text → Option model.Refusal
 room_fault rooms room =
     model.first_refusal ((not (is_room_name room), model.BadRoomName) ∷ (not (list_any (bytes_eq room) rooms), model.UnknownRoom) ∷ [])
 
--- the room of this name, where nothing is at fault with it; else the refusal, or want of memory or of the store in its place
+-- the room of this name, if nothing is at fault with it; else the refusal, or that memory or the store failed
 abbrev pub FindsRoom : List Text → Text → Result Text Refusal → Type 0
 FindsRoom rooms room (Ok found) = (found ≡ room) × (room_fault rooms room ≡ None)
 FindsRoom rooms room (Err e) = (room_fault rooms room ≡ Some (refusal_of e)) ⊎ IsOfMachine (Refused (refusal_of e))

@@ -24,7 +24,7 @@ pub record IsServed {K : Type 0} (keeper : Ghosts K) (old new : K) (command : Co
       → IsSettled (keeper.may_leave new) (keeper.tables new)
   pub crash : keeper.is_clean new → keeper.is_open old → (t : Tables) → keeper.may_leave new t → keeper.may_leave old t ⊎ Reaches (keeper.tables old) command t
 
--- the keeper was read, which leaves its tables; where that is refused, the refusal tells of a failure that was counted
+-- the keeper was read, which leaves its tables; if that is refused as a failure of the store, that is counted, and nothing else is
 pub record IsRead {K X : Type 0} (keeper : Ghosts K) (old new : K) (result : Result X Refusal) : Type 0 where
   pub clean : keeper.is_clean new → keeper.is_clean old
   pub opens : keeper.is_clean new → keeper.is_open new → keeper.is_open old

@@ -106,7 +106,7 @@ pub(crate) fn receive<K: Keeper>(
     change(keeper, turns::receive(part, &batch))
 }
 
-/// Commits the first k tentative writes.
+/// Commits the first tentative writes, k at most.
 pub(crate) fn commit<K: Keeper>(keeper: &mut K, k: u64) -> Result<Reply, Refusal>
     ensures served { IsServed K.Keeper keeper.old keeper.new (model.Commit k) (reply_in result) }
 {
@@ -114,7 +114,7 @@ pub(crate) fn commit<K: Keeper>(keeper: &mut K, k: u64) -> Result<Reply, Refusal
     change(keeper, turns::commit(&part, k))
 }
 
-/// Keeps commits up to this number no longer.
+/// Drops the copies of the writes with commit numbers up to this one.
 pub(crate) fn truncate<K: Keeper>(keeper: &mut K, number: u64) -> Result<Reply, Refusal>
     ensures served { IsServed K.Keeper keeper.old keeper.new (model.Truncate number) (reply_in result) }
 {

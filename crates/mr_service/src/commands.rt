@@ -21,9 +21,9 @@ pub enum Local {
         room: String,
         id: String,
     },
-    /// Commits that many tentative writes, at the primary.
+    /// Commits the first tentative writes, that many at most, at the primary.
     Commit(u64),
-    /// Keeps commits up to this number no longer, at another replica.
+    /// Drops the copies of the writes with commit numbers up to this one, at a replica that isn't the primary.
     Truncate(u64),
     /// Asks how far the replica's knowledge goes.
     Position,

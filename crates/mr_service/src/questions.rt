@@ -171,7 +171,7 @@ fn outcome_at<K: Keeper>(
     }
 }
 
-/// Rows of which none is that of the cancel, which no replica has, tell of no request.
+/// Looks up the row of the cancel. If there is none, which no replica's tables have, the request is refused as unknown.
 fn outcome_of_cancelled<K: Keeper>(
     keeper: &mut K,
     room: &RoomName,

@@ -40,7 +40,7 @@ pub enum Reply {
         room: RoomName,
         lines: Vec<LogLine>,
     },
-    /// The command was refused, and changed nothing.
+    /// The command was refused. It changed nothing, but behind 24 or 25 over a store on disk it may turn out to be done.
     Refused(Refusal),
 }
 

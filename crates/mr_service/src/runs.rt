@@ -55,7 +55,7 @@ pub(crate) fn put<T: Drop>(list: &mut Vec<T>, item: T)
     let _ = list.push(item);
 }
 
-/// The same over lists, with no premise: no reply is that the store failed.
+/// The same over lists, with no premise on the keeper. If its tables stand for a replica, no reply is that the store failed.
 pub fn run_over_lists(
     alloc: Global,
     service: &mut Service<ListKeeper>,

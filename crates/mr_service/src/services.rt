@@ -48,8 +48,8 @@ impl<K: Keeper> Service<K> {
         self.keeper
     }
 
-    /// Does what the command says, and replies. A refusal changes nothing; out of memory is one, and a failure of the store
-    /// another.
+    /// Does what the command says, and replies. A refusal changes nothing; but behind 24 or 25 over a store on disk the command may turn out to
+    /// be done.
     pub fn ask(&mut self, command: &Command) -> Reply
         ensures served { IsServed K.Keeper self.old self.new (command_seen command.now) (reply_of result) }
         ensures clean { K.is_clean self.new → K.is_clean self.old }

@@ -81,7 +81,7 @@ pub(crate) fn receive(part: Part, batch: &Batch) -> Result<(Reply, Change), Refu
     Ok((Reply::Took { writes, commits }, change))
 }
 
-/// Commits the first k tentative writes.
+/// Commits the first tentative writes, k at most.
 pub(crate) fn commit(part: &Part, k: u64) -> Result<(Reply, Change), Refusal>
     ensures { TurnsBy (scopes.NextCommits k) (λ a. model.commit a k) part.now result }
 {
@@ -89,7 +89,7 @@ pub(crate) fn commit(part: &Part, k: u64) -> Result<(Reply, Change), Refusal>
     Ok((Reply::Committed(count), change))
 }
 
-/// Keeps commits up to this number no longer.
+/// Drops the copies of the writes with commit numbers up to this one.
 pub(crate) fn truncate(part: &Part, number: u64) -> Result<(Reply, Change), Refusal>
     ensures { TurnsBy (scopes.UpTo number) (λ a. model.truncate a number) part.now result }
 {

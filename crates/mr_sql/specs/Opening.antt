@@ -39,7 +39,7 @@ RefusesFor w = IsGivenBack (AreStrangeTo w) (MayFailFor w) (AreTakenAs w)
 
 -- ---- what is found
 
--- the tables that `meta` is of, or it has no row, or one of another schema
+-- all rows were tested, and these are the tables with the row of `meta`; or `meta` has no row, or one of another schema
 abbrev pub AreFoundHere : Bool → Trees → Option Tables → Type 0
 AreFoundHere keep trees None = HasNoMeta 2 trees
 AreFoundHere keep trees (Some t) = AreAllFound keep trees (Some t)

@@ -224,7 +224,7 @@ impl<B: Start> SqlKeeper<FileStore<SparingFile<B>>> {
 
     /// Opens the file as the database of a replica, whichever it is. Tables of the first schema are moved up before it answers. A
     /// file that can't be opened as a database is refused with 25. If there is no file, or its database isn't that of a
-    /// replica, it is refused with 26. It makes no file.
+    /// replica, it is refused with 26. It makes no database file; a log that is missing it makes.
     pub fn open_from(
         rt: &HostRuntime,
         path: &str,
@@ -289,8 +289,8 @@ impl SqlKeeper<FileStore<Memory>> {
         }
     }
 
-    /// As `open_copied`, of what the files at the path hold as they are read, which is all that is done with them. If there is no file,
-    /// it is refused with 26.
+    /// As `open_copied`, of what the files at the path hold. They are read under shared locks, the log is synced before if it has a frame, and
+    /// nothing is written. If there is no file, it is refused with 26.
     pub fn open_copy(rt: &HostRuntime, path: &str, keep: bool) -> Result<CopyKeeper, NotCopied>
         ensures opened { IfOk result (λ k. IsNewKeeper (λ after. (image : Image) × AreFrom image IsResumed after) (file_state k.0) k.1) }
         ensures cause { IfErr result (λ e. (r : _) → e ≡ NotCopied.Refused r → IsOfOpening r) }

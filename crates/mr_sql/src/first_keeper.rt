@@ -66,8 +66,8 @@ impl FirstKeeper<MemStore> {
 
 impl<S: Alter + Drop> FirstKeeper<S> {
     /// Moves the tables up to the second schema, in one transaction. `log` takes the place of `write_log` and `undo`, which stay there
-    /// without rows; all other rows stay. If a row of either has no partner in the other, it is refused with 25. What a refusal gives
-    /// back can be moved up again, unless the store failed.
+    /// without rows; all other rows stay. Rows of the two logs without a partner in the other, and rows that contradict each
+    /// other once they are moved, are refused with 25. What a refusal gives back can be moved up again, unless the store failed.
     pub fn move_up(self) -> Result<SqlKeeper<S>, (FirstKeeper<S>, Refusal)>
         ensures raised { IfOk result (λ k. IsNewKeeper (IsRaised (state S.Store self).now.trees) (state S.Store k.0) k.1) }
         ensures cause { IfErr result (λ e. (e.1 ≡ Refusal.OutOfMemory) ⊎ (e.1 ≡ Refusal.Store)) }

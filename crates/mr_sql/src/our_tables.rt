@@ -1,5 +1,5 @@
-//! What the tables of a database have to be, said a second time beside the statements that make them: so a schema that is found is compared
-//! with no database made to compare it with.
+//! What the tables of a database have to be, said a second time beside the statements that make them: so no database has
+//! to be made to compare a found schema with.
 
 /// A table with one key, and the key's index. Each column is strict and takes no NULL, and none has a default.
 pub(crate) struct Wanted {

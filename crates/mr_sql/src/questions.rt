@@ -1,4 +1,4 @@
-//! What a keeper answers a question by: the rows of `meta` and `vector` are tested together before others are read, each of which is tested by
+//! What a keeper answers a question by: `meta` and `vector` are tested together before the rows of the answer are read. Each row is tested by
 //! itself as it is read.
 
 ghost use Rattle.std.specs.Prelude.{◌≡◌, true, IfOk, OnOk};

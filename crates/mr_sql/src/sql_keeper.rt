@@ -32,7 +32,8 @@ pub struct SqlKeeper<S: Alter> {
     conn: Idle<S>,
     failures: u64,
     alloc: Global,
-    // All rows, as the open read them to test them. The first call that needs them takes them, and a change drops them.
+    // All rows, as the open read them to test them. The first call of `load_part` or `read` takes them, and a change drops them; other calls
+    // ask the database.
     fresh: Option<Tables>,
 }
 

@@ -36,7 +36,7 @@ pub(crate) enum Came {
     Seen(Result<Vec<u8>, Refusal>),
     Counted(Option<Layout>),
     Filled,
-    /// Nothing, since the files can't be opened.
+    /// Nothing, since the files can't be opened, or have no such replica.
     Nothing,
 }
 

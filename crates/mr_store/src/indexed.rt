@@ -105,8 +105,8 @@ impl<R: KeyedRow> Indexed<R> {
         let _ = &self.rows;
     }
 
-    /// Puts the row, in the place of the one of its write, which is returned and whose key stays. If memory refuses, the rows stay;
-    /// it is never asked for a row of a write that is there, whose key is there too.
+    /// Puts the row, and returns the one of its write that it replaces, whose key stays. If memory refuses, the rows stay. If a row of
+    /// the write is there, and the new row's key too, no memory is asked for.
     pub(crate) fn put(&mut self, row: R) -> Result<Option<R>, AllocError>
         ensures put { OnOk result (self.new.rows ≡ put id_before R.id row self.old.rows) }
         ensures old { IfOk result (λ old. old ≡ find (λ r. same_id (R.id r) (R.id row)) self.old.rows) }

@@ -70,7 +70,7 @@ fn put_one<R: KeyedRow>(
     Ok(())
 }
 
-/// Makes the table again what it was before the journal of putting these rows.
+/// Gives the table the rows that it had before the puts in the journal, and drops the keys that the new rows left.
 pub(crate) fn take_back<R: KeyedRow>(table: &mut Indexed<R>, journal: Journal<R>, news: &[R])
     ensures { (before : List R) → AreSteps R.id (IsNoted R.second_key table.old.keys) (reverse journal.puts.items) before table.old.rows → table.new.rows ≡ before }
 {
@@ -104,7 +104,7 @@ fn step_back<R: KeyedRow>(table: &mut Indexed<R>, id: WriteId, old: Option<R>)
     }
 }
 
-/// Takes the rows away that are to go, and what is left of those in whose place others came.
+/// Takes the rows away that are to go, and the old keys of rows that were replaced.
 pub(crate) fn settle<R: KeyedRow>(table: &mut Indexed<R>, journal: Journal<R>)
     ensures { table.new.rows ≡ rows_but R.id (is_going journal.going) table.old.rows }
 {

@@ -77,8 +77,8 @@ pub(crate) fn told<T>(answer: Result<T, Refusal>) -> Result<T, Fault>
     }
 }
 
-/// What holds a replica's tables. Contracts see it as the tables; a call that is refused leaves them as they are. An `impl` has five
-/// calls; the trait makes the others of `query`.
+/// What holds a replica's tables. Contracts see it as the tables; a call that is refused leaves them as they are, unless
+/// the failure shuts the keeper. An `impl` has five calls; the trait makes the others of `query`.
 pub trait Keeper {
     ghost tables: { Self → Tables };
 

@@ -75,7 +75,7 @@ const BRIEF: Ask = Ask {
     others: &[],
 };
 
-/// The requests of servers 2 and 3 for the same hour.
+/// The requests of servers 2 and 3, from 14:00 and from 14:30, which overlap.
 const AUDIT_AT_TWO: Ask = Ask {
     title: "Audit",
     length: 60,

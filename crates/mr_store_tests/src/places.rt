@@ -54,7 +54,7 @@ enum Step {
     Rows(usize),
     /// Whether there is a row of this write.
     Has(Numbers, bool),
-    /// Whether a copy has one on which what was executed last is undone.
+    /// Whether a copy of the board has one, once what was executed last is undone on that copy.
     CopyHas(Numbers, bool),
 }
 
@@ -143,7 +143,7 @@ fn replay(
     Ok(are(tried.rows.as_slice(), places))
 }
 
-/// What shows of this write's row in the overlay is in the error log.
+/// Whether the overlay shows this write's row in the error log.
 fn is_logged_in(overlay: &Overlay, (server, n): Numbers) -> Result<bool, Refusal> {
     let Some(row) = overlay.row(id(server, n)?) else {
         return Ok(false);

@@ -159,7 +159,7 @@ fn meta((commits, dropped, clock): (u64, u64, u64)) -> Result<MetaRow, Refusal> 
     })
 }
 
-/// Puts these rows into the tables; oak is known if a row speaks of it.
+/// Puts these rows into the tables; oak is known if there is a row of `booking` or `cancelled`.
 fn fill(alloc: Global, tables: &mut Tables, rows: &Rows) -> Result<(), Refusal> {
     if !rows.booking.is_empty() || !rows.cancelled.is_empty() {
         add(&mut tables.room, RoomName::new(alloc, "oak"))?;

@@ -38,6 +38,7 @@ pub fn put_bookings(board: &mut Board, alloc: Global, rows: &[BookingRow]) -> Re
     Ok(())
 }
 
+/// Puts a row of `booking` on the board. Refused if it is beyond its limits.
 pub fn put_booking(board: &mut Board, alloc: Global, row: &BookingRow) -> Result<(), Refusal>
     ensures put { OnOk result (board.new ≡ insert_entry id_cmp board.old (booking_entry row.now).0 (booking_entry row.now).1) }
     ensures within { OnOk result (IsRowWithin row.now.n row.now.start row.now.stop) }
@@ -80,6 +81,7 @@ pub fn put_cancelled(board: &mut Board, alloc: Global, rows: &[CancelledRow]) ->
     Ok(())
 }
 
+/// Puts a row of `cancelled` on the board. Refused if it is beyond its limits.
 pub fn put_taken_back(board: &mut Board, alloc: Global, row: &CancelledRow) -> Result<(), Refusal>
     ensures put { OnOk result (board.new ≡ insert_entry id_cmp board.old (cancelled_entry row.now).0 (cancelled_entry row.now).1) }
     ensures within { OnOk result (IsRowWithin row.now.n row.now.start row.now.stop) }

@@ -64,7 +64,7 @@ pub fn is_in_order<R: TableRow>(rows: &[R]) -> bool
     rows.is_sorted_by(|one, next| one.is_before(next))
 }
 
-/// Takes the rows of these writes away, in one pass if there are any.
+/// Takes the rows of these writes away: one pass, in which each row is compared with each of the writes, if there are any.
 pub fn take_away<R: IdRow>(rows: &mut Vec<R>, gone: &[WriteId])
     ensures items { rows.new.items ≡ rows_without R.id gone.now rows.old.items }
     ensures len { vec_len rows.new ≤ vec_len rows.old }

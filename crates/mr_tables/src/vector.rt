@@ -11,7 +11,7 @@ use crate::{Tables, VectorRow};
 use mr_base::{Refusal, ServerId};
 use std::alloc::Global;
 
-/// The rows of the servers whose tallies are other ones in the second summary, as that has them.
+/// The rows of the servers that have a write in the new summary and whose tally isn't that in the old one.
 pub fn changed_tallies(
     alloc: Global,
     old: &Summary,
@@ -29,7 +29,7 @@ pub fn changed_tallies(
     Ok(rows)
 }
 
-/// Adds the row of a server, if its tally is another one in the second summary.
+/// Adds the row of a server, if it has a write in the new summary and its tally isn't that in the old one.
 fn push_changed(
     rows: &mut Vec<VectorRow>,
     old: &Summary,

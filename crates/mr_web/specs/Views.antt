@@ -58,7 +58,7 @@ wish_view w = record { room = w.room.now; title = w.title.now; minutes = w.minut
 abbrev pub slots_view : List SlotWords → List model.SlotWords
 slots_view slots = map words_of slots
 
--- the slots are added behind those that were there, or there is none to add, unless memory ran out
+-- the slots are added behind those that were there, or what was read is no list of slots, unless memory ran out
 abbrev pub AddsSlots : Option (List model.SlotWords) → List SlotWords → List SlotWords → Result (Unit {0}) Stop → Type 0
 AddsSlots slots old new (Ok u) = (more : List model.SlotWords) × (slots ≡ Some more) × (slots_view new ≡ slots_view old ++ more)
 AddsSlots slots old new (Err (stop.Fault read.Read)) = ⊥

@@ -52,7 +52,7 @@ fn cancellation_in(alloc: Global, value: &Value) -> Result<CancelWords, Stop>
     Ok(cancellation_with(alloc, texts)?)
 }
 
-/// The cancellation that a body is. Out of memory is apart from a body that is none.
+/// The cancellation that a body is. A body that is none is a bad request; out of memory is a fault.
 pub(crate) fn cancellation(alloc: Global, body: &[u8]) -> Result<CancelWords, Stop>
     ensures { GivesView cancellation_view result (ok_or (spec.cancellation_of body.now) bad_request) }
 {

@@ -12,7 +12,7 @@ use std::alloc::Global;
 /// What comes of a body that is not what its route takes.
 pub(crate) const BAD_REQUEST: Stop = Stop::Rejected(Rejection::BadRequest);
 
-/// The JSON that a body is. Out of memory is apart from a body that is none.
+/// The JSON that a body is. A body that is none is a bad request; out of memory is a fault.
 pub(crate) fn json_in(alloc: Global, body: &[u8]) -> Result<Value, Stop>
     ensures { GivesView view result (ok_or (spec.json_of body.now) bad_request) }
 {
@@ -28,7 +28,7 @@ pub(crate) fn json_in(alloc: Global, body: &[u8]) -> Result<Value, Stop>
     }
 }
 
-/// How many members an object has; what is none has none.
+/// How many members an object has; any other value has 0.
 pub(crate) fn member_count(value: &Value) -> usize
     ensures { result ≡ spec.members_in (view value.now) }
 {

@@ -141,7 +141,7 @@ fn submission_in(alloc: Global, value: &Value) -> Result<Submission, Stop>
     Ok(submission_with(alloc, wish, alternatives)?)
 }
 
-/// The submission that a body is. Out of memory is apart from a body that is none.
+/// The submission that a body is. A body that is none is a bad request; out of memory is a fault.
 pub(crate) fn submission(alloc: Global, body: &[u8]) -> Result<Submission, Stop>
     ensures { GivesView submission_of result (ok_or (spec.submission_in_body body.now) bad_request) }
 {

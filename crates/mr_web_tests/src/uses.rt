@@ -8,7 +8,8 @@
 // - `texts`: exchange and position texts, written and read (`mr_wire`).
 //
 // What a call needs and promises stands at the call's own contract, the words of that in the `specs/` of its crate and of `mr_model`.
-// A call that takes memory takes the allocator first, and refuses with `OutOfMemory` if there is none.
+// A function that takes memory takes the allocator first; a service, a world or a board has its own. If there is no memory, they refuse with
+// `OutOfMemory`.
 
 mod asking;
 mod board;

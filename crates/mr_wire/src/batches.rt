@@ -24,7 +24,7 @@ pub fn read_batch(alloc: Global, bytes: &[u8]) -> Result<Batch, Refusal>
     ensures all_read { (b : BatchOfLines) → ReadsAs bytes.now b → Gives result (Ok b) }
     // What is refused has a first bad line, or it reads as a batch for which memory ran out.
     ensures refuses { IfErr result (IsRefusedFor bytes.now) }
-    // If there is a bad line, the first is reported. That takes no memory.
+    // If there is a bad line, the first is reported, even if there is no memory.
     ensures due { (i : ℕ) → IsFirstBadLine bytes.now i → result ≡ Err (Refusal.BadLine i) }
     // The first bytes of a written batch read as the whole lines in them.
     ensures fronts { (n : ℕ) (b : BatchOfLines) → is_batch b ≡ true → bytes.now ≡ take n (batch_text b)

@@ -1,5 +1,5 @@
 //! Exchange texts and position texts, of two versions, written as lines and read back from bytes of any kind.
-//! It stands on `mr_base`; commands, replicas and the network stand on it. README.md has lines of use, and what is proved.
+//! It stands on `mr_base`; the service, the words of commands and the network stand on it. README.md has lines of use, and what is proved.
 #![tactic(auto)]
 
 mod bad_lines;

@@ -23,7 +23,7 @@ pub fn read_position(alloc: Global, bytes: &[u8]) -> Result<Position, Refusal>
     ensures reads { IfOk result (λ p. bytes.now ≡ position_text p) }
     // The text of each position is read, unless memory runs out.
     ensures all_read { (p : PositionOfReplica) → is_position p ≡ true → bytes.now ≡ position_text p → Gives result (Ok p) }
-    // What is no position's text is refused as that, without memory.
+    // What is no position's text is refused as that, even if there is no memory.
     ensures due { read_position bytes.now ≡ None → result ≡ Err Refusal.BadPosition }
 {
     position_or_refusal(alloc, bytes)

@@ -62,7 +62,7 @@ pub fn say_made<W: Write>(out: &mut W, made: Result<String, AllocError>, status:
     }
 }
 
-/// Prints why nothing was done.
+/// Prints the refusal, or that there was no memory for its line, and answers 1; or 3 if the writer doesn't take it.
 pub fn say_refusal<W: Write>(alloc: Global, out: &mut W, refusal: &Refusal) -> u8
     ensures status { (result ≡ 1) ⊎ (result ≡ 3) }
     ensures told { result ≡ 1 → Appends (W.contents out.old) (W.contents out.new) (line (refusal_text (refusal_of refusal.now)))

@@ -16,7 +16,7 @@ pub fn read_server(word: &str) -> Option<ServerId>
     ServerId::new(number as u32)
 }
 
-/// The number of commits that the word writes.
+/// How many writes to commit, or up to which commit to drop: from 0 to 999,999,999,999.
 pub fn read_count(word: &str) -> Option<u64>
     ensures { result ≡ commit_number_in word.now }
 {
