@@ -2,7 +2,7 @@
 
 A world is made from its seed alone, before anything of it is asked of the program: its replicas are those of ../oracle.py, which keep
 nothing but sets of writes, and a batch or a position is read as ../wire.py reads it. Here is what is asked; how it is asked is told in
-ways.py, for each way by a class of its own.
+scripts.py, commands.py and served.py, for each way by a class of its own.
 """
 
 import collections
