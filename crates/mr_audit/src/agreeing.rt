@@ -14,7 +14,6 @@ use crate::ids::do_ids_agree;
 use crate::limits::do_limits_agree;
 use crate::log::{does_log_agree, is_log_whole};
 use crate::marks::do_marks_agree;
-use crate::numbers::{do_counts_agree, does_meta_agree};
 use crate::places::do_places_agree;
 use crate::rooms::do_rooms_agree;
 use crate::spans::do_spans_agree;
@@ -22,6 +21,7 @@ use crate::times::{are_all_in_turn, do_last_times_agree};
 use crate::vector::summary_of;
 use mr_base::Refusal;
 use mr_tables::Tables;
+use mr_tables::numbers::{do_counts_agree, does_meta_agree};
 use std::alloc::Global;
 
 /// Whether the rows of the tables agree with each other, and those of writes stand in the order of their ids, as both do if the

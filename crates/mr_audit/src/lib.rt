@@ -15,7 +15,6 @@ mod limits;
 mod log;
 mod marks;
 mod note_rows;
-mod numbers;
 mod places;
 mod rooms;
 mod spans;
@@ -25,4 +24,3 @@ mod turns;
 mod vector;
 
 pub use agreeing::do_tables_agree;
-pub use numbers::do_numbers_agree;

@@ -18,9 +18,9 @@ use Rattle.mr_model.proofs.DroppedApart.{kept_known}
 use Rattle.mr_model.proofs.RowsById.{seq_at, at_seq}
 use Rattle.mr_base.specs.declared.refusals.Refusal.{Refusal}
 use Rattle.mr_tables.specs.Summary.{tally_at}
-use Rattle.mr_part.specs.declared.kept_writes.NumberedWrite.{NumberedWrite}
+use Rattle.mr_part.specs.declared.kept_rows.KeptRow.{KeptRow}
 use Rattle.mr_part.specs.Candidate.{write_with_id, write_verdict_with, commit_verdict}
-use Rattle.mr_part.specs.KeptWrites.{logged_at, is_number_of, numbered_of}
+use Rattle.mr_part.specs.KeptWrites.{logged_at, is_number_of, held_row}
 use Rattle.mr_part.specs.declared.candidate.Candidate.{Candidate}
 use Rattle.mr_part.specs.Taken.{ShowsTaken, CoversScope, is_inside, logged_write_verdict, logged_commit_verdict}
 use Rattle.mr_part.proofs.Judging.{JudgedWrite, judged_write, JudgedCommit, judged_commit, commit_at}
@@ -47,9 +47,9 @@ find_filtered {A} p q (x ∷ xs) f = go (p x) refl (q x) refl (find_filtered p q
     go false e false g ih = ih
 
 -- the kept write of an id that is named is in scope
-write_there : (a : Replica) (items : List Item) (inside : Write → Bool) (c : Candidate) (p : Progress) (x : Item) → CoversScope a items inside → ShowsTaken a inside c p → Has x items → option_map (λ (y : NumberedWrite). y.write) (logged_at c.kept (item_id x)) ≡ write_with_id (kept_in_order p.replica) (item_id x)
+write_there : (a : Replica) (items : List Item) (inside : Write → Bool) (c : Candidate) (p : Progress) (x : Item) → CoversScope a items inside → ShowsTaken a inside c p → Has x items → option_map (λ (y : KeptRow). y.write) (logged_at c.kept (item_id x)) ≡ write_with_id (kept_in_order p.replica) (item_id x)
 write_there a items inside c p x covers shows h =
-    ap (option_map (λ (y : NumberedWrite). y.write)) (shows.kept (item_id x)) ∙ write_told (seq_of p.replica) (write_with_id (filter inside (kept_in_order p.replica)) (item_id x))
+    ap (option_map (λ (y : KeptRow). y.write)) (shows.kept (item_id x)) ∙ write_told a p.replica (write_with_id (filter inside (kept_in_order p.replica)) (item_id x))
     ∙ find_filtered (λ w. same_id (id_of w) (item_id x)) inside (kept_in_order p.replica) (λ w g e. covers w (inside_named a items x w h (same_id-true (id_of w) (item_id x) e)))
 
 pub write_judged : (line : ℕ) (a : Replica) (items : List Item) (inside : Write → Bool) (c : Candidate) (w : Write) (p : Progress) (v : Result Bool Refusal) → IsReplica p.replica → IsTrue (is_write w) → Has (W w) items → CoversScope a items inside → ShowsTaken a inside c p → v ≡ logged_write_verdict line c.summary c.kept w → JudgedWrite line p w v
@@ -66,7 +66,7 @@ unwrap d (Some x) = x
 
 -- the kept write of an id that is named has a number that is known and kept just where the commit of that number is of this id
 pub number_there : (a : Replica) (items : List Item) (inside : Write → Bool) (r : Replica) (q : ℕ) (id : Id) → IsReplica r → CoversScope a items inside → Has (C q id) items → r.dropped < q → q ≤ length r.commits
-    → is_number_of q (option_map (numbered_of r) (write_with_id (filter inside (kept_in_order r)) id)) ≡ is_that_id (slice_get r.commits (q - 1)) id
+    → is_number_of q (option_map (held_row a r) (write_with_id (filter inside (kept_in_order r)) id)) ≡ is_that_id (slice_get r.commits (q - 1)) id
 number_there a items inside r q id sound covers h low high =
     let (w, kept, commit) = commit_at r q sound low high in
     go w kept commit (same_id (id_of w) id) refl (write_with_id (filter inside (kept_in_order r)) id) refl ∙ ap (λ o. is_that_id o id) (sym commit)
@@ -84,13 +84,13 @@ number_there a items inside r q id sound covers h low high =
         absurd (true≢false (sym mine ∙ ap (λ i. same_id i id) same ∙ other))
     numbered w v commit mine other false e = refl
 
-    go : (w : Write) → slice_get (kept_in_order r) (q - 1 - r.dropped) ≡ Some w → slice_get r.commits (q - 1) ≡ Some (id_of w) → (b : Bool) → same_id (id_of w) id ≡ b → (o : Option Write) → write_with_id (filter inside (kept_in_order r)) id ≡ o → is_number_of q (option_map (numbered_of r) o) ≡ b
+    go : (w : Write) → slice_get (kept_in_order r) (q - 1 - r.dropped) ≡ Some w → slice_get r.commits (q - 1) ≡ Some (id_of w) → (b : Bool) → same_id (id_of w) id ≡ b → (o : Option Write) → write_with_id (filter inside (kept_in_order r)) id ≡ o → is_number_of q (option_map (held_row a r) o) ≡ b
     go w kept commit true e o is =
         let mine = slice_has (kept_in_order r) (q - 1 - r.dropped) w kept in
         let here = has_filter inside w (kept_in_order r) (covers w (inside_named a items (C q id) w h (same_id-true (id_of w) id e))) mine in
         let found = find_one (λ v. same_id (id_of v) id) w (filter inside (kept_in_order r)) here e
         (λ y g s. one_known r y w sound (kept_known r y sound (filter_has inside y (kept_in_order r) g).0).0 (kept_known r w sound mine).0 (same_id-true (id_of y) id s ∙ sym (same_id-true (id_of w) id e))) in
-        ap (λ u. is_number_of q (option_map (numbered_of r) u)) (sym is ∙ found) ∙ eq-eqb (seq_of r w) q (number w commit)
+        ap (λ u. is_number_of q (option_map (held_row a r) u)) (sym is ∙ found) ∙ eq-eqb (seq_of r w) q (number w commit)
     go w kept commit false e None is = refl
     go w kept commit false e (Some v) is = numbered w v commit (find_has (λ u. same_id (id_of u) id) v (filter inside (kept_in_order r)) is).1 e (seq_of r v == q) refl
 

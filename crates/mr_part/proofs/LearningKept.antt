@@ -1,9 +1,10 @@
 -- A candidate that takes a write or a commit shows the replica that takes it.
-use Rattle.std.proofs.Common.{◌≡◌, ℕ, suc, ◌+◌, ◌<◌, ◌≤◌, ◌||◌, Bool, true, false, cond, List, [], ◌∷◌, ◌++◌, length, Option, Some, None, is_some, ap, refl, sym, ◌∙◌, subst, append_assoc, ◌⊎◌, inl, inr, arith}
+use Rattle.std.proofs.Common.{◌≡◌, ℕ, suc, ◌+◌, ◌<◌, ◌≤◌, ◌==◌, ◌||◌, nat_le, Bool, true, false, cond, List, [], ◌∷◌, ◌++◌, length, Option, Some, None, is_some, ap, refl, sym, ◌∙◌, subst, append_assoc, ◌⊎◌, inl, inr, arith}
 use Rattle.std.specs.Prelude.{find, bytes_eq}
 use Rattle.std.specs.List.{filter}
 use Rattle.std.specs.Option.{option_map}
 use Rattle.std.proofs.lemmas.Bool.{cond-true, cond-false}
+use Rattle.std.proofs.lemmas.Bool.Decides.{nat_tests}
 use Rattle.std.proofs.lemmas.List.{length-append}
 use Rattle.std.proofs.lemmas.List.Elements.{filter-append}
 use Rattle.mr_model.specs.Texts.{Text}
@@ -14,10 +15,12 @@ use Rattle.mr_model.specs.Dropped.{Has}
 use Rattle.mr_model.specs.Kept.{kept_in_order, kept_committed}
 use Rattle.mr_model.specs.Changes.{IsNext, CommitMoved}
 use Rattle.mr_model.specs.Tables.{seq_among, seq_of}
+use Rattle.mr_model.specs.Replay.{Logged}
+use Rattle.mr_model.specs.View.{place_of}
 use Rattle.mr_model.specs.Taking.{Progress, with_new_write, with_new_commit}
 use Rattle.mr_model.proofs.Members.{has_right, has_filter, filter_has, find_one, find_has, same_id-true, same_id_from}
 use Rattle.mr_model.proofs.ChangesKeep.{keeps-add_write, keeps-add_commit}
-use Rattle.mr_model.proofs.KnownById.{one_known, tentative_known}
+use Rattle.mr_model.proofs.KnownById.{one_known, known_bounds, tentative_known}
 use Rattle.mr_model.proofs.DroppedApart.{kept_known}
 use Rattle.mr_model.proofs.RowsById.{seq_not, seq_behind}
 use Rattle.mr_model.proofs.Orders.{new_not_committed}
@@ -25,9 +28,10 @@ use Rattle.mr_model.proofs.WithWrite.{has_with_write, count-with_write}
 use Rattle.mr_tables.specs.declared.summary.Summary.{Summary}
 use Rattle.mr_tables.specs.Summary.{noted_write, noted_commit, summary_of}
 use Rattle.mr_tables.proofs.Summaries.{summary-write, summary-commit}
-use Rattle.mr_part.specs.declared.kept_writes.NumberedWrite.{NumberedWrite}
+use Rattle.mr_part.specs.declared.kept_rows.KeptRow.{KeptRow}
+use Rattle.mr_part.specs.KeptRows.{kept_row, kept_row_with}
 use Rattle.mr_part.specs.Candidate.{write_with_id}
-use Rattle.mr_part.specs.KeptWrites.{logged_at, has_at, with_number, numbered_of}
+use Rattle.mr_part.specs.KeptWrites.{KeptWrites, HasKept, logged_at, has_at, with_number, held_place, held_row}
 use Rattle.mr_replay.specs.Seen.{has_room}
 use Rattle.mr_part.specs.declared.candidate.Candidate.{Candidate}
 use Rattle.mr_part.specs.Taken.{ShowsTaken, CoversScope}
@@ -85,8 +89,39 @@ found_by_id r inside w id sound pass h e =
 
 -- ---- a write
 
-abbrev opened : Write → NumberedWrite
-opened w = record { write = w; seq = 0 }
+-- what a write has until it is executed
+abbrev opened : Write → KeptRow
+opened w = kept_row_with w 0 Logged
+
+-- that is how a write is held that the first replica doesn't know
+held_new : (a r : Replica) (w : Write) → count_of a w.stamp.server < w.stamp.n → seq_of r w ≡ 0 → opened w ≡ held_row a r w
+held_new a r w new open_ =
+    let e : nat_le w.stamp.n (count_of a w.stamp.server) ≡ false = grind (arith, nat_tests) in
+    λ i. kept_row_with w (sym open_ i) (sym (cond-false (nat_le w.stamp.n (count_of a w.stamp.server)) (place_of a w) Logged e) i)
+
+-- and its own writes are held as they are
+held_own : (a : Replica) (w : Write) → IsReplica a → Has w a.known → kept_row a w ≡ held_row a a w
+held_own a w sound known =
+    let low = (known_bounds a w sound known).1 in
+    let e : nat_le w.stamp.n (count_of a w.stamp.server) ≡ true = grind (arith, nat_tests) in
+    λ i. kept_row_with w (seq_of a w) (sym (cond-true (nat_le w.stamp.n (count_of a w.stamp.server)) (place_of a w) Logged e) i)
+
+pub held_all : (a : Replica) (inside : Write → Bool) (kept : KeptWrites) → IsReplica a → HasKept kept (kept_row a) (filter inside (kept_in_order a)) → HasKept kept (held_row a a) (filter inside (kept_in_order a))
+held_all a inside kept sound has id = has id ∙ go (write_with_id (filter inside (kept_in_order a)) id) refl
+  where
+    go : (o : Option Write) → write_with_id (filter inside (kept_in_order a)) id ≡ o → option_map (kept_row a) o ≡ option_map (held_row a a) o
+    go None is = refl
+    go (Some w) is =
+        let there = find_has (λ v. same_id (id_of v) id) w (filter inside (kept_in_order a)) is in
+        ap Some (held_own a w sound (kept_known a w sound (filter_has inside w (kept_in_order a) there.0).0).0)
+
+-- a write more
+count_more : (r : Replica) (w : Write) (s : ℕ) → count_of r s ≤ count_of (add_write r w) s
+count_more r w s = go (w.stamp.server == s) (count-with_write (λ v. v.stamp.server == s) w r.known)
+  where
+    go : (b : Bool) → count_of (add_write r w) s ≡ cond b (suc (count_of r s)) (count_of r s) → count_of r s ≤ count_of (add_write r w) s
+    go true e = omega (arith, e)
+    go false e = omega (arith, e)
 
 pub shows-learned : (a : Replica) (items : List Item) (inside : Write → Bool) (c new : Candidate) (p : Progress) (w : Write) → IsReplica p.replica → w.stamp.server < 100 → IsNext p.replica w → Has (W w) items → CoversScope a items inside → ShowsTaken a inside c p
     → new.summary ≡ noted_write c.summary w.stamp → ((name : Text) → has_room new.rooms name ≡ (bytes_eq name w.room || has_room c.rooms name))
@@ -100,10 +135,14 @@ shows-learned a items inside c new p w sound small next named covers shows summa
       kept = λ id. kept id ∙ ap (cond (same_id (id_of w) id) (Some (opened w))) (shows.kept id) ∙ found id (same_id (id_of w) id) refl;
       writes = omega (arith, counted, was);
       marks = shows.marks;
+      counts = λ s. (let had = shows.counts s in let more = count_more r w s in omega (arith, had, more));
     }
   where
     r : Replica
     r = p.replica
+
+    unknown : count_of a w.stamp.server < w.stamp.n
+    unknown = let had = shows.counts w.stamp.server in let number = next.number in omega (arith, had, number)
 
     is_in : inside w ≡ true
     is_in = covers w (inside_named a items (W w) w named refl)
@@ -115,12 +154,12 @@ shows-learned a items inside c new p w sound small next named covers shows summa
     there = subst (Has w) (sym (kept-learned r w sound next)) (has_right w (kept_committed r) (with_write w (tentative r)) (has_with_write w w (tentative r) (inl refl)))
 
     found : (id : Id) (b : Bool) → same_id (id_of w) id ≡ b
-        → cond b (Some (opened w)) (option_map (numbered_of r) (write_with_id (filter inside (kept_in_order r)) id)) ≡ option_map (numbered_of (add_write r w)) (write_with_id (filter inside (kept_in_order (add_write r w))) id)
+        → cond b (Some (opened w)) (option_map (held_row a r) (write_with_id (filter inside (kept_in_order r)) id)) ≡ option_map (held_row a (add_write r w)) (write_with_id (filter inside (kept_in_order (add_write r w))) id)
     found id true e =
-        (λ i. Some (record { write = w; seq = sym (seq_not 1 r.commits (id_of w) (new_not_committed r w sound next)) i }))
-        ∙ ap (option_map (numbered_of (add_write r w))) (sym (found_by_id (add_write r w) inside w id sound' is_in there e))
+        ap Some (held_new a (add_write r w) w unknown (seq_not 1 r.commits (id_of w) (new_not_committed r w sound next)))
+        ∙ ap (option_map (held_row a (add_write r w))) (sym (found_by_id (add_write r w) inside w id sound' is_in there e))
     found id false e =
-        ap (option_map (numbered_of r))
+        ap (option_map (held_row a r))
         (sym (find_with (λ v. same_id (id_of v) id) inside w (kept_committed r) (tentative r) e) ∙ ap (λ ws. write_with_id (filter inside ws) id) (sym (kept-learned r w sound next)))
 
 -- ---- a commit
@@ -156,11 +195,11 @@ module _ (a : Replica) (items : List Item) (inside : Write → Bool) (c : Candid
   there' : Has m.moved (kept_in_order r')
   there' = subst (Has m.moved) (sym (kept-moved r id sound m)) (has_right m.moved (kept_committed r) (m.moved ∷ (m.before ++ m.behind)) (inl refl))
 
-  found : logged_at c.kept id ≡ Some (numbered_of r m.moved)
-  found = shows.kept id ∙ ap (option_map (numbered_of r)) (found_by_id r inside m.moved id sound is_in there (same_id_from (id_of m.moved) id m.is_moved))
+  found : logged_at c.kept id ≡ Some (held_row a r m.moved)
+  found = shows.kept id ∙ ap (option_map (held_row a r)) (found_by_id r inside m.moved id sound is_in there (same_id_from (id_of m.moved) id m.is_moved))
 
   pub move_found : has_at c.kept id ≡ true
-  move_found = ap (λ (o : Option NumberedWrite). is_some o) found
+  move_found = ap (λ (o : Option KeptRow). is_some o) found
 
   number : seq_of r' m.moved ≡ 1 + length r.commits
   number =
@@ -182,18 +221,18 @@ module _ (a : Replica) (items : List Item) (inside : Write → Bool) (c : Candid
       ∙ ap (λ ws. find test (filter inside ws)) others ∙ sym (find_round test inside m.moved (kept_committed r) (m.before ++ m.behind) not_moved)
       ∙ ap (λ ws. find test (filter inside ws)) (sym (kept-moved r id sound m))
 
-  same_number : (other : Id) → same_id id other ≡ false → (o : Option Write) → write_with_id (filter inside (kept_in_order r')) other ≡ o → option_map (numbered_of r) o ≡ option_map (numbered_of r') o
+  same_number : (other : Id) → same_id id other ≡ false → (o : Option Write) → write_with_id (filter inside (kept_in_order r')) other ≡ o → option_map (held_row a r) o ≡ option_map (held_row a r') o
   same_number other e None is = refl
   same_number other e (Some v) is =
       let mine = same_id-true (id_of v) other (find_has (λ u. same_id (id_of u) other) v (filter inside (kept_in_order r')) is).1 in
-      λ i. Some (record { write = v; seq = sym (seq_other 1 r.commits id (id_of v) (ap (same_id id) mine ∙ e)) i })
+      λ i. Some (kept_row_with v (sym (seq_other 1 r.commits id (id_of v) (ap (same_id id) mine ∙ e)) i) (held_place a v))
 
   moved_in : (other : Id) (b : Bool) → same_id id other ≡ b
-      → cond b (option_map (with_number (noted_commit c.summary id).commits) (logged_at c.kept id)) (logged_at c.kept other) ≡ option_map (numbered_of r') (write_with_id (filter inside (kept_in_order r')) other)
+      → cond b (option_map (with_number (noted_commit c.summary id).commits) (logged_at c.kept id)) (logged_at c.kept other) ≡ option_map (held_row a r') (write_with_id (filter inside (kept_in_order r')) other)
   moved_in other true e =
-      ap (option_map (with_number (noted_commit c.summary id).commits)) found ∙ (λ i. Some (record { write = m.moved; seq = commits i }))
-      ∙ ap (option_map (numbered_of r')) (sym (found_by_id r' inside m.moved other sound' is_in there' (ap (λ i. same_id i other) m.is_moved ∙ e)))
-  moved_in other false e = shows.kept other ∙ ap (option_map (numbered_of r)) (same_write_in other e) ∙ same_number other e (write_with_id (filter inside (kept_in_order r')) other) refl
+      ap (option_map (with_number (noted_commit c.summary id).commits)) found ∙ (λ i. Some (kept_row_with m.moved (commits i) (held_place a m.moved)))
+      ∙ ap (option_map (held_row a r')) (sym (found_by_id r' inside m.moved other sound' is_in there' (ap (λ i. same_id i other) m.is_moved ∙ e)))
+  moved_in other false e = shows.kept other ∙ ap (option_map (held_row a r)) (same_write_in other e) ∙ same_number other e (write_with_id (filter inside (kept_in_order r')) other) refl
 
   marked : (v : Write) → (b : Bool) → same_id id (id_of v) ≡ b → (seq_of r v ≡ seq_of a v) ⊎ (inside v ≡ true) → (seq_of r' v ≡ seq_of a v) ⊎ (inside v ≡ true)
   marked v true e old = inr (covers v (inside_named a items (C q id) v named (sym (same_id-true id (id_of v) e))))
@@ -214,4 +253,5 @@ module _ (a : Replica) (items : List Item) (inside : Write → Bool) (c : Candid
         kept = λ other. kept other ∙ moved_in other (same_id id other) refl;
         writes = omega (arith, before, same, after, counted);
         marks = λ v. marked v (same_id id (id_of v)) refl (shows.marks v);
+        counts = shows.counts;
       }

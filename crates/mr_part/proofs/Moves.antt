@@ -1,6 +1,6 @@
 -- What a batch undoes and executes anew, picked from lists of kept writes.
 use Rattle.std.proofs.Common.{◌≡◌, sym, ap, ◌∙◌, subst, ℕ, ◌+◌, ◌<◌, ◌≤◌, Bool, true, false, cond, ◌&&◌, ◌||◌, ◌==◌, ltb, List, [], ◌∷◌, ◌++◌, length, get_or, drop, map, ◌⊎◌, inl, inr, Some, append_assoc, append-nil, arith, refl, leb, le-leb, lt-ltb, ltb-true, eq-eqb, eqb-true}
-use Rattle.std.proofs.lemmas.List.{get_or-map, at_drop_all, length-append, length-map}
+use Rattle.std.proofs.lemmas.List.{get_or-map, at_drop_all, length-append, length-map, map-append}
 use Rattle.std.proofs.lemmas.Bool.{true≢false, cond-true, cond-false, false_from_ne_true, and_parts, and_from, or_left, or_right}
 use Rattle.std.proofs.lemmas.List.Elements.{filter-append}
 use Rattle.std.specs.List.{filter, list_any, slice_get}
@@ -13,7 +13,7 @@ use Rattle.mr_model.specs.Replica.{Replica, IsReplica, is_among, committed, tent
 use Rattle.mr_model.specs.Scopes.{item_id, is_named, is_late, is_in_tail, is_touched, rooms_of_item, touched_rooms}
 use Rattle.mr_model.specs.Moving.{may_move, again}
 use Rattle.mr_model.specs.Tables.{LogRow, seq_of, log_row, tables_of}
-use Rattle.mr_model.specs.View.{of_room, place_of}
+use Rattle.mr_model.specs.View.{place_of}
 use Rattle.mr_model.specs.Dropped.{Has}
 use Rattle.mr_model.proofs.KnownById.{tentative_known, distinct_commits, committed_ids}
 use Rattle.mr_model.proofs.DroppedApart.{kept_known, known_kept, committed-parts}
@@ -27,11 +27,9 @@ use Rattle.mr_part.specs.Moves.{rooms_named, AreTouched, moves_in, moves_row, is
 use Rattle.mr_part.specs.declared.kept_rows.KeptRow.{KeptRow}
 use Rattle.mr_part.specs.KeptRows.{kept_row, row_writes, row_undos}
 use Rattle.mr_part.specs.Logged.{undo_with}
-use Rattle.mr_part.specs.RoomMoves.{rows_of_room}
 use Rattle.mr_part.specs.Sets.{AreSameRooms}
 use Rattle.mr_part.specs.Taken.{CoversScope, is_inside}
-use Rattle.mr_part.specs.KeptWrites.{numbered_of}
-use Rattle.mr_part.specs.declared.kept_writes.NumberedWrite.{NumberedWrite}
+use Rattle.mr_part.specs.KeptWrites.{held_place, held_row}
 use Rattle.mr_part.proofs.OrderNumbers.{dropped_long, order_numbers, slice_left, has_place}
 use Rattle.mr_part.proofs.BatchNumbers.{commits_long, new_number}
 use Rattle.mr_part.proofs.FilteredRows.{picked_here, left_here}
@@ -55,6 +53,14 @@ pick_none f p xs k x done next low at t same e =
 -- where none is left all are picked
 pub pick_end : {A B : Type 0} (f : A → B) (p : A → Bool) (xs : List A) (k : ℕ) (done : List B) → length xs ≤ k → done ++ map f (filter p (drop k xs)) ≡ map f (filter p xs) → done ≡ map f (filter p xs)
 pick_end f p xs k done all e = sym (append-nil done) ∙ ap (λ ys. done ++ ys) (sym (at_drop_all (λ zs. map f (filter p zs)) xs k all)) ∙ e
+
+-- one more, where they are looked at one by one
+pub passed_more : {A B : Type 0} (f : A → B) (p : A → Bool) (xs : List A) (x : A) (b : Bool) (done next : List B) → b ≡ p x → next ≡ cond b (done ++ f x ∷ []) done → done ≡ map f (filter p xs) → next ≡ map f (filter p (xs ++ x ∷ []))
+passed_more f p xs x b done next is put e = put ∙ go b is ∙ sym (ap (map f) (filter-append p xs (x ∷ [])))
+  where
+    go : (c : Bool) → c ≡ p x → cond c (done ++ f x ∷ []) done ≡ map f (filter p xs ++ filter p (x ∷ []))
+    go true t = ap (λ ys. ys ++ f x ∷ []) e ∙ sym (map-append f (filter p xs) (x ∷ [])) ∙ ap (λ ys. map f (filter p xs ++ ys)) (sym (cond-true (p x) (x ∷ []) [] (sym t)))
+    go false t = e ∙ ap (map f) (sym (append-nil (filter p xs))) ∙ ap (λ ys. map f (filter p xs ++ ys)) (sym (cond-false (p x) (x ∷ []) [] (sym t)))
 
 -- ---- the rooms that are touched
 
@@ -133,12 +139,22 @@ pub all_pass : {A : Type 0} (xs : List A) → filter (λ x. true) xs ≡ xs
 all_pass [] = refl
 all_pass (x ∷ xs) = ap (λ ys. x ∷ ys) (all_pass xs)
 
-filter_logged : (q : NumberedWrite → Bool) (r : Replica) (ws : List Write) → map (λ x. x.write) (filter q (map (numbered_of r) ws)) ≡ filter (λ w. q (numbered_of r w)) ws
-filter_logged q r [] = refl
-filter_logged q r (w ∷ ws) = go (q (numbered_of r w)) (filter_logged q r ws)
+filter_logged : (q : KeptRow → Bool) (a r : Replica) (ws : List Write) → row_writes (filter q (map (held_row a r) ws)) ≡ filter (λ w. q (held_row a r w)) ws
+filter_logged q a r [] = refl
+filter_logged q a r (w ∷ ws) = go (q (held_row a r w)) (filter_logged q a r ws)
   where
-    go : (b : Bool) → map (λ x. x.write) (filter q (map (numbered_of r) ws)) ≡ filter (λ v. q (numbered_of r v)) ws → map (λ x. x.write) (cond b (numbered_of r w ∷ filter q (map (numbered_of r) ws)) (filter q (map (numbered_of r) ws))) ≡ cond b (w ∷ filter (λ v. q (numbered_of r v)) ws) (filter (λ v. q (numbered_of r v)) ws)
+    go : (b : Bool) → row_writes (filter q (map (held_row a r) ws)) ≡ filter (λ v. q (held_row a r v)) ws → row_writes (cond b (held_row a r w ∷ filter q (map (held_row a r) ws)) (filter q (map (held_row a r) ws))) ≡ cond b (w ∷ filter (λ v. q (held_row a r v)) ws) (filter (λ v. q (held_row a r v)) ws)
     go true ih = ap (λ vs. w ∷ vs) ih
+    go false ih = ih
+
+-- what undid them, by the places in the first replica
+undos_held : (q : KeptRow → Bool) (a r : Replica) (ws : List Write) → row_undos (filter q (map (held_row a r) ws)) ≡ map (undo_with (held_place a)) (row_writes (filter q (map (held_row a r) ws)))
+undos_held q a r [] = refl
+undos_held q a r (w ∷ ws) = go (q (held_row a r w)) (undos_held q a r ws)
+  where
+    go : (b : Bool) → row_undos (filter q (map (held_row a r) ws)) ≡ map (undo_with (held_place a)) (row_writes (filter q (map (held_row a r) ws)))
+        → row_undos (cond b (held_row a r w ∷ filter q (map (held_row a r) ws)) (filter q (map (held_row a r) ws))) ≡ map (undo_with (held_place a)) (row_writes (cond b (held_row a r w ∷ filter q (map (held_row a r) ws)) (filter q (map (held_row a r) ws))))
+    go true ih = ap (λ us. undo_with (held_place a) w ∷ us) ih
     go false ih = ih
 
 -- the first committed writes have the first numbers
@@ -183,13 +199,6 @@ pub undos_moved : (a : Replica) (touched : List Text) (items : List Item) (commi
 undos_moved a touched items commits ws =
     ap row_undos (filter-map (moves_row touched items commits) (kept_row a) ws) ∙ map-twice (λ (x : KeptRow). x.undo) (kept_row a) (filter (λ w. seq_of a w == 0 && moves_in touched items commits w) ws)
 
--- and those of one room
-pub undos_moved_in : (a : Replica) (touched : List Text) (items : List Item) (commits : ℕ) (name : Text) (ws : List Write) → row_undos (rows_of_room name (filter (moves_row touched items commits) (map (kept_row a) ws))) ≡ map (undo_with (place_of a)) (of_room name (filter (λ w. seq_of a w == 0 && moves_in touched items commits w) ws))
-undos_moved_in a touched items commits name ws =
-    let moved = filter (λ w. seq_of a w == 0 && moves_in touched items commits w) ws in
-    ap (λ rows. row_undos (rows_of_room name rows)) (filter-map (moves_row touched items commits) (kept_row a) ws)
-    ∙ ap row_undos (filter-map (λ (x : KeptRow). bytes_eq x.write.room name) (kept_row a) moved) ∙ map-twice (λ (x : KeptRow). x.undo) (kept_row a) (of_room name moved)
-
 -- ---- what is undone and what is executed anew
 
 moving_inside : (a : Replica) (items : List Item) (w : Write) → seq_of a w ≡ 0 → may_move a items w ≡ true → is_inside a items w ≡ true
@@ -225,15 +234,15 @@ undone_picked a items inside touched sound covers right =
         (λ w h e. covers w (moving_inside a items w (tentative_number a w h) e))
 
 abbrev anew : Replica → Replica → List Item → List Text → Write → Bool
-anew a b items touched w = is_anew touched items (length a.commits) (numbered_of b w)
+anew a b items touched w = is_anew touched items (length a.commits) (held_row a b w)
 
 not_above : (n k : ℕ) → k ≤ n → ltb n k ≡ false
 not_above n k l = false_from_ne_true (ltb n k) (λ t. let g = ltb-true n k t in omega (arith, g, l))
 
-pub again_picked : (a b : Replica) (items : List Item) (inside : Write → Bool) (touched : List Text) (commits : ℕ) (kept : List NumberedWrite) (m : ShowsMoves a b items inside touched commits kept) → map (λ x. x.write) (filter (is_anew touched items commits) kept) ≡ again a items m.moves.news b
+pub again_picked : (a b : Replica) (items : List Item) (inside : Write → Bool) (touched : List Text) (commits : ℕ) (kept : List KeptRow) (m : ShowsMoves a b items inside touched commits kept) → row_writes (filter (is_anew touched items commits) kept) ≡ again a items m.moves.news b
 again_picked a b items inside touched commits kept m =
-    (λ i. map (λ (x : NumberedWrite). x.write) (filter (is_anew touched items (m.commits_are i)) (m.kept_are i)))
-    ∙ filter_logged (is_anew touched items (length a.commits)) b (filter inside (kept_in_order b))
+    (λ i. row_writes (filter (is_anew touched items (m.commits_are i)) (m.kept_are i)))
+    ∙ filter_logged (is_anew touched items (length a.commits)) a b (filter inside (kept_in_order b))
     ∙ ap (λ ws. filter (anew a b items touched) (filter inside (ws ++ tentative b))) kept_is
     ∙ filter_apart (anew a b items touched) inside (kept_committed a ++ m.moves.news) (tentative b)
     ∙ ap (λ ws. ws ++ filter (anew a b items touched) (filter inside (tentative b))) (filter_apart (anew a b items touched) inside (kept_committed a) m.moves.news)
@@ -301,5 +310,11 @@ again_picked a b items inside touched commits kept m =
 
     some : filter (anew a b items touched) (filter inside (tentative b)) ≡ filter (may_move a items) (tentative b)
     some = filter_inside (anew a b items touched) (may_move a items) inside (tentative b) same_test (λ w h e. m.covers w (moving_inside a items w (uncommitted w h) e))
+
+-- and what undid them
+pub undos_picked : (a b : Replica) (items : List Item) (inside : Write → Bool) (touched : List Text) (commits : ℕ) (kept : List KeptRow) → ShowsMoves a b items inside touched commits kept → row_undos (filter (is_anew touched items commits) kept) ≡ map (undo_with (held_place a)) (row_writes (filter (is_anew touched items commits) kept))
+undos_picked a b items inside touched commits kept m =
+    subst (λ (rows : List KeptRow). row_undos (filter (is_anew touched items commits) rows) ≡ map (undo_with (held_place a)) (row_writes (filter (is_anew touched items commits) rows))) (sym m.kept_are)
+    (undos_held (is_anew touched items commits) a b (filter inside (kept_in_order b)))
 
 -- ---- what is in scope

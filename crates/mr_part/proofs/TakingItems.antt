@@ -9,15 +9,16 @@ use Rattle.mr_model.specs.Exchange.{Second, Item, is_item}
 use Rattle.mr_model.specs.Kept.{kept_in_order}
 use Rattle.mr_model.specs.Refusals as model
 use Rattle.mr_model.specs.Replica.{Replica, IsReplica}
-use Rattle.mr_model.specs.Tables.{seq_of}
 use Rattle.mr_model.specs.Taking.{Progress, take_item, take_items}
 use Rattle.mr_model.specs.Writes.{Write}
 use Rattle.mr_model.proofs.TakingKeeps.{IsItem, KeepsReplica, item_keeps}
 use Rattle.mr_base.specs.declared.refusals.Refusal.{Refusal}
 use Rattle.mr_tables.specs.Summary.{summary_of}
-use Rattle.mr_part.specs.declared.kept_writes.NumberedWrite.{NumberedWrite}
+use Rattle.mr_part.specs.declared.kept_rows.KeptRow.{KeptRow}
 use Rattle.mr_part.specs.Answering.{nothing_taken}
-use Rattle.mr_part.specs.KeptWrites.{HasKept, numbered_of}
+use Rattle.mr_part.specs.KeptWrites.{HasKept, held_row}
+use Rattle.mr_part.specs.KeptRows.{kept_row}
+use Rattle.mr_part.proofs.LearningKept.{held_all}
 use Rattle.mr_part.specs.declared.candidate.Candidate.{Candidate}
 use Rattle.mr_part.specs.Taken.{ShowsTaken, ShowsPicked, TakesItem, TakesItems, TakenPicked}
 use Rattle.mr_part.specs.Sets.{IsSetOf}
@@ -84,14 +85,14 @@ pub inside-end : (a : Replica) (inside : Write → Bool) (items : List Item) (k 
 inside-end a inside items k p c h at = at.rest ∙ ap (λ xs. take_items xs (2 + k) (Ok at.progress)) (drop_none items k h)
 
 -- before the first item
-pub taken-none : (a : Replica) (inside : Write → Bool) (c : Candidate) → c.summary ≡ summary_of a → IsSetOf c.rooms a.rooms → HasKept c.kept (seq_of a) (filter inside (kept_in_order a)) → ShowsTaken a inside c (nothing_taken a)
-taken-none a inside c summary rooms kept = record { summary = summary; rooms = rooms; kept = kept; writes = omega arith; marks = λ w. inl refl }
+pub taken-none : (a : Replica) (inside : Write → Bool) (c : Candidate) → IsReplica a → c.summary ≡ summary_of a → IsSetOf c.rooms a.rooms → HasKept c.kept (kept_row a) (filter inside (kept_in_order a)) → ShowsTaken a inside c (nothing_taken a)
+taken-none a inside c sound summary rooms kept = record { summary = summary; rooms = rooms; kept = held_all a inside c.kept sound kept; writes = omega arith; marks = λ w. inl refl; counts = λ s. omega arith }
 
 -- behind the last one, where the rooms and the writes are put into their orders
-pub taken-all : (a : Replica) (inside : Write → Bool) (c : Candidate) (p : Progress) (rooms : List Text) (kept : List NumberedWrite) → ShowsTaken a inside c p → rooms ≡ p.replica.rooms → kept ≡ map (numbered_of p.replica) (filter inside (kept_in_order p.replica))
+pub taken-all : (a : Replica) (inside : Write → Bool) (c : Candidate) (p : Progress) (rooms : List Text) (kept : List KeptRow) → ShowsTaken a inside c p → rooms ≡ p.replica.rooms → kept ≡ map (held_row a p.replica) (filter inside (kept_in_order p.replica))
     → ShowsPicked a inside (record { summary = c.summary; rooms = rooms; kept = kept }) p
 taken-all a inside c p rooms kept shows rooms_are kept_are =
-    let size = ap length kept_are ∙ length-map (filter inside (kept_in_order p.replica)) (numbered_of p.replica) in
+    let size = ap length kept_are ∙ length-map (filter inside (kept_in_order p.replica)) (held_row a p.replica) in
     let was = shows.writes in
     record { summary = shows.summary; rooms = rooms_are; kept = kept_are; writes = omega (arith, size, was); marks = shows.marks }
 

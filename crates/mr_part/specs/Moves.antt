@@ -10,9 +10,8 @@ use Rattle.mr_model.specs.Scopes.{is_late, is_touched}
 use Rattle.mr_model.specs.Moving.{BatchMoves}
 use Rattle.mr_model.specs.Tables.{seq_of, tables_of}
 use Rattle.mr_part.specs.declared.kept_rows.KeptRow.{KeptRow}
-use Rattle.mr_part.specs.declared.kept_writes.NumberedWrite.{NumberedWrite}
 use Rattle.mr_part.specs.declared.movable.Moving.{Moving}
-use Rattle.mr_part.specs.KeptWrites.{numbered_of}
+use Rattle.mr_part.specs.KeptWrites.{held_row}
 use Rattle.mr_part.specs.Sets.{IsSetOf}
 use Rattle.mr_part.specs.Taken.{CoversScope}
 use Rattle.mr_part.specs.Tails.{IsTail}
@@ -45,21 +44,17 @@ moves_in touched items commits w = list_any (bytes_eq w.room) touched && is_late
 abbrev pub moves_row : List Text → List Item → ℕ → KeptRow → Bool
 moves_row touched items commits x = x.seq == 0 && moves_in touched items commits x.write
 
--- the same of a write with its commit number
-abbrev pub moves_open : List Text → List Item → ℕ → NumberedWrite → Bool
-moves_open touched items commits x = x.seq == 0 && moves_in touched items commits x.write
-
 -- whether a write is executed anew: it is newly committed, or tentative and may move
-abbrev pub is_anew : List Text → List Item → ℕ → NumberedWrite → Bool
-is_anew touched items commits x = nat_lt commits x.seq || moves_open touched items commits x
+abbrev pub is_anew : List Text → List Item → ℕ → KeptRow → Bool
+is_anew touched items commits x = nat_lt commits x.seq || moves_row touched items commits x
 
 -- the batch leads from the first replica to the second one, of whose kept writes these are those that pass the test
-pub record ShowsMoves (a b : Replica) (items : List Item) (inside : Write → Bool) (touched : List Text) (commits : ℕ) (kept : List NumberedWrite) : Type 0 where
+pub record ShowsMoves (a b : Replica) (items : List Item) (inside : Write → Bool) (touched : List Text) (commits : ℕ) (kept : List KeptRow) : Type 0 where
   pub sound : IsReplica a
   pub moves : BatchMoves a b items
   pub are_touched : AreTouched touched a items
   pub commits_are : commits ≡ length a.commits
   pub covers : CoversScope a items inside
-  pub kept_are : kept ≡ map (numbered_of b) (filter inside (kept_in_order b))
+  pub kept_are : kept ≡ map (held_row a b) (filter inside (kept_in_order b))
   -- a write that doesn't pass has the commit number that it had
   pub marks : (w : Write) → (seq_of b w ≡ seq_of a w) ⊎ (inside w ≡ true)

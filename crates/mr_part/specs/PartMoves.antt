@@ -1,5 +1,5 @@
 -- What a batch undoes and executes anew, as a call of a part gets it, and what the part answers.
-use Rattle.std.specs.Prelude.{◌≡◌, ℕ, List, [], map, filter, Result, Ok, Err, IfOk, ◌⊎◌}
+use Rattle.std.specs.Prelude.{◌≡◌, ℕ, List, map, filter, Result, Ok, Err, IfOk, ◌⊎◌}
 use Rattle.mr_model.specs.Texts.{Text}
 use Rattle.mr_model.specs.Writes.{Write}
 use Rattle.mr_model.specs.Replica.{Replica, IsReplica, tentative}
@@ -8,7 +8,7 @@ use Rattle.mr_model.specs.Replies.{Took}
 use Rattle.mr_model.specs.Step.{after_items}
 use Rattle.mr_model.specs.Tables.{tables_of}
 use Rattle.mr_model.specs.Taking.{take_items}
-use Rattle.mr_model.specs.View.{of_room, place_of}
+use Rattle.mr_model.specs.View.{place_of}
 use Rattle.mr_model.specs.Dropped.{Has}
 use Rattle.mr_model.specs.Scopes.{OfItems}
 use Rattle.mr_model.specs.Moving.{may_move, again, BatchMoves}
@@ -22,16 +22,12 @@ use Rattle.mr_tables.specs.Change.{ChangeView, changed}
 use Rattle.mr_part.specs.Answering.{nothing_taken, reply_with}
 use Rattle.mr_part.specs.Parts.{part_of}
 use Rattle.mr_part.specs.Logged.{undo_with}
-use Rattle.mr_part.specs.RoomMoves.{MovesOfRooms, undone_at, again_at}
-
--- these undo, by rooms, the tentative writes that the items may move, and nothing is executed anew
-abbrev pub AreUndone : MovesOfRooms → Replica → List Item → Type 0
-AreUndone moves a items =
-    (name : Text) → (undone_at moves name ≡ map (undo_with (place_of a)) (of_room name (filter (may_move a items) (tentative a)))) × (again_at moves name ≡ [])
+use Rattle.mr_part.specs.KeptWrites.{held_place}
 
 -- The batch leads from the first replica, whose part has these numbers, rooms and board, to the second one, whose numbers and rooms
--- are those; the undo rows are those of the tentative writes that it may move, and the writes are those that it has executed anew.
-pub record MovesPart (old : Summary) (known : List Text) (board : Rows) (items : List Item) (a b : Replica) (summary : Summary) (rooms : List Text) (undone : List UndoRow) (in_rooms : MovesOfRooms) (writes : List Write) : Type 0 where
+-- are those; the undo rows are those of the tentative writes that it may move, and the writes are those that it has executed
+-- anew, each beside what undid it, or would undo it if it were logged.
+pub record MovesPart (old : Summary) (known : List Text) (board : Rows) (items : List Item) (a b : Replica) (summary : Summary) (rooms : List Text) (undone : List UndoRow) (writes : List Write) (was : List UndoRow) : Type 0 where
   pub sound : IsReplica a
   pub old_is : old ≡ summary_of a
   pub known_are : known ≡ a.rooms
@@ -41,8 +37,8 @@ pub record MovesPart (old : Summary) (known : List Text) (board : Rows) (items :
   pub summary_is : summary ≡ summary_of b
   pub rooms_are : rooms ≡ b.rooms
   pub undone_are : undone ≡ map (undo_with (place_of a)) (filter (may_move a items) (tentative a))
-  pub rooms_undone : AreUndone in_rooms a items
   pub writes_are : writes ≡ again a items moves.news b
+  pub was_are : was ≡ map (undo_with (held_place a)) writes
 
 -- the answer of a part that takes these items is that of the step, and its change turns the tables into those after it; or memory ran out
 abbrev pub AnswersItems : Replica → List Item → Result (ℕ × ℕ × ChangeView) Refusal → Type 0

@@ -1,11 +1,11 @@
 -- What a batch makes of numbers, rooms and kept writes, item by item.
-use Rattle.std.specs.Prelude.{◌≡◌, ℕ, ◌+◌, ◌<◌, ◌||◌, ◌&&◌, Bool, true, List, length, take, map, filter, slice_get, Some, Result, Ok, Err, ◌⊎◌}
+use Rattle.std.specs.Prelude.{◌≡◌, ℕ, ◌+◌, ◌<◌, ◌≤◌, ◌||◌, ◌&&◌, Bool, true, List, length, take, map, filter, slice_get, Some, Result, Ok, Err, ◌⊎◌}
 use Rattle.std.specs.Option.{option_map}
 use Rattle.mr_model.specs.Texts.{Text}
 use Rattle.mr_model.specs.Writes.{Id, Write, id_of}
 use Rattle.mr_model.specs.Exchange.{Item}
 use Rattle.mr_model.specs.Refusals as model
-use Rattle.mr_model.specs.Replica.{Replica}
+use Rattle.mr_model.specs.Replica.{Replica, count_of}
 use Rattle.mr_model.specs.Kept.{kept_in_order}
 use Rattle.mr_model.specs.Scopes.{is_named, is_in_tail, is_touched}
 use Rattle.mr_model.specs.Tables.{seq_of, log_row, tables_of}
@@ -16,16 +16,16 @@ use Rattle.mr_base.specs.declared.refusals.Refusal.TheVariants.{OutOfMemory}
 use Rattle.mr_tables.specs.declared.summary.Summary.{Summary}
 use Rattle.mr_tables.specs.Summary.{tally_at, summary_of}
 use Rattle.mr_part.specs.declared.candidate.Candidate.{Candidate}
-use Rattle.mr_part.specs.declared.kept_writes.NumberedWrite.{NumberedWrite}
+use Rattle.mr_part.specs.declared.kept_rows.KeptRow.{KeptRow}
 use Rattle.mr_part.specs.Candidate.{write_verdict_with, commit_verdict}
-use Rattle.mr_part.specs.KeptWrites.{KeptWrites, HasKept, logged_at, is_number_of, numbered_of}
+use Rattle.mr_part.specs.KeptWrites.{KeptWrites, HasKept, logged_at, is_number_of, held_row}
 use Rattle.mr_part.specs.Sets.{IsSetOf}
 
 -- the numbers, the rooms in the order of names and the kept writes in that of execution, as all items leave them
 pub record ReachedView : Type 0 where
   pub summary : Summary
   pub rooms : List Text
-  pub kept : List NumberedWrite
+  pub kept : List KeptRow
 
 -- whether a write of the replica is in scope of the items
 abbrev pub is_inside : Replica → List Item → Write → Bool
@@ -40,17 +40,19 @@ CoversScope a items inside = (w : Write) → is_inside a items w ≡ true → in
 pub record ShowsTaken (a : Replica) (inside : Write → Bool) (c : Candidate) (p : Progress) : Type 0 where
   pub summary : c.summary ≡ summary_of p.replica
   pub rooms : IsSetOf c.rooms p.replica.rooms
-  pub kept : HasKept c.kept (seq_of p.replica) (filter inside (kept_in_order p.replica))
+  pub kept : HasKept c.kept (held_row a p.replica) (filter inside (kept_in_order p.replica))
   -- all writes that came are there
   pub writes : length (filter inside (kept_in_order p.replica)) ≡ length (filter inside (kept_in_order a)) + p.writes
   -- a write that doesn't pass has the commit number that it had
   pub marks : (w : Write) → (seq_of p.replica w ≡ seq_of a w) ⊎ (inside w ≡ true)
+  -- no server's writes are fewer
+  pub counts : (s : ℕ) → count_of a s ≤ count_of p.replica s
 
 -- the same of what all items lead to
 pub record ShowsPicked (a : Replica) (inside : Write → Bool) (c : ReachedView) (p : Progress) : Type 0 where
   pub summary : c.summary ≡ summary_of p.replica
   pub rooms : c.rooms ≡ p.replica.rooms
-  pub kept : c.kept ≡ map (numbered_of p.replica) (filter inside (kept_in_order p.replica))
+  pub kept : c.kept ≡ map (held_row a p.replica) (filter inside (kept_in_order p.replica))
   pub writes : length c.kept ≡ length (filter inside (kept_in_order a)) + p.writes
   pub marks : (w : Write) → (seq_of p.replica w ≡ seq_of a w) ⊎ (inside w ≡ true)
 

@@ -11,18 +11,20 @@ ghost use Rattle.mr_model.specs.Taking.{Progress, take_items};
 ghost use Rattle.mr_base.specs.Batches.{item_of};
 ghost use Rattle.mr_tables.specs.Summary.{summary_of, noted_write, noted_commit};
 ghost use Rattle.mr_part.specs.Answering.{NeverStore, nothing_taken};
-ghost use Rattle.mr_part.specs.KeptRows.{kept_row};
+ghost use Rattle.mr_part.specs.KeptRows.{kept_row, kept_row_with};
+ghost use Rattle.mr_model.specs.Replay.{Logged};
 ghost use Rattle.mr_part.specs.KeptWrites.{logged_at, has_at, with_number};
 ghost use Rattle.mr_replay.specs.Seen.{has_room};
 ghost use Rattle.mr_part.specs.Taken.{CoversScope, ShowsTaken, ShowsPicked, TakesItem, TakesItems, TakenPicked, logged_write_verdict, logged_commit_verdict};
 
 use crate::judge::{judge_commit, judge_write};
-use crate::kept_rows::KeptRow;
+use crate::kept_rows::{KeptRow, kept_with};
 use crate::kept_writes::{
-    KeptWrites, NumberedWrite, find_write, has_number, in_run_order, kept_writes, number_write,
+    KeptWrites, find_write, has_number, in_run_order, kept_writes, number_write,
 };
 use crate::room_sets::{RoomSet, add_room, names_of, room_set};
 use mr_base::{CommitNumber, Item, Refusal, RoomName, Write, WriteId};
+use mr_replay::Place;
 use mr_tables::summary::Summary;
 use std::alloc::Global;
 use std::marker::Model;
@@ -44,7 +46,7 @@ pub struct Reached {
     /// In the order of names.
     pub rooms: Vec<RoomName>,
     /// In the order of execution.
-    pub kept: Vec<NumberedWrite>,
+    pub kept: Vec<KeptRow>,
 }
 
 impl Model for Reached {
@@ -83,7 +85,7 @@ impl Candidate {
         rooms: &[RoomName],
         kept: Vec<KeptRow>,
     ) -> Result<Candidate, Refusal>
-        ensures begins { (a : Replica) (inside : WriteOfReplica → Bool) → summary ≡ summary_of a → rooms.now ≡ a.rooms → kept.items ≡ map (kept_row a) (filter inside (kept_in_order a))
+        ensures begins { (a : Replica) (inside : WriteOfReplica → Bool) → IsReplica a → summary ≡ summary_of a → rooms.now ≡ a.rooms → kept.items ≡ map (kept_row a) (filter inside (kept_in_order a))
             → IfOk result (λ c. ShowsTaken a inside c (nothing_taken a)) }
         ensures only { IfErr result (λ e. e ≡ Refusal.OutOfMemory) }
     {
@@ -173,14 +175,15 @@ impl Candidate {
     fn add_write(&mut self, write: &Write) -> Result<(), Refusal>
         ensures summary { OnOk result (self.new.summary ≡ noted_write self.old.summary write.now.stamp) }
         ensures rooms { OnOk result ((name : Text) → has_room self.new.rooms name ≡ (bytes_eq name write.now.room || has_room self.old.rooms name)) }
-        ensures kept { OnOk result ((id : Id) → logged_at self.new.kept id ≡ (if same_id (id_of write.now) id then Some (record { write = write.now; seq = 0 }) else logged_at self.old.kept id)) }
+        ensures kept { OnOk result ((id : Id) → logged_at self.new.kept id ≡ (if same_id (id_of write.now) id then Some (kept_row_with write.now 0 Logged) else logged_at self.old.kept id)) }
         ensures only { IfErr result (λ e. e ≡ Refusal.OutOfMemory) }
     {
         add_room(self.alloc, &mut self.rooms, &write.room)?;
         let write = write.copy(self.alloc)?;
         let stamp = write.stamp;
+        // It has no place yet: until it is executed it is held as logged.
         self.kept
-            .insert(stamp.id(), NumberedWrite { write, seq: 0 })?;
+            .insert(stamp.id(), kept_with(write, Place::Logged, 0))?;
         self.summary.note_write(stamp);
         Ok(())
     }

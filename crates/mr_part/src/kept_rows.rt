@@ -18,7 +18,8 @@ use mr_tables::reading::write_of;
 use mr_tables::{ActionCells, LogRow};
 use std::alloc::Global;
 
-/// A kept write as `log` tells it. `seq` is its commit number, 0 if it is tentative.
+/// A kept write as `log` tells it. `seq` is its commit number, 0 if it is tentative. One that a batch brings has no place until it is
+/// executed, and is held as logged.
 #[derive(Drop)]
 pub struct KeptRow {
     pub write: Write,
@@ -130,7 +131,8 @@ fn is_of_cells(action: &Action, cells: &ActionCells) -> bool
     }
 }
 
-fn kept_with(write: Write, place: Place, seq: u64) -> KeptRow
+/// The row of a write that has this place.
+pub(crate) fn kept_with(write: Write, place: Place, seq: u64) -> KeptRow
     ensures { result ≡ kept_row_with write seq (place_seen place) }
 {
     let undo = UndoRow::of(&write, place);

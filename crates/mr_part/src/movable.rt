@@ -1,4 +1,4 @@
-ghost use Rattle.std.specs.Prelude.{◌≡◌, ◌&&◌, ◌||◌, ℕ, Bool, List, map, filter, flat_map, bytes_eq, OnOk, IfOk, IfErr};
+ghost use Rattle.std.specs.Prelude.{◌≡◌, ◌&&◌, ◌||◌, ◌++◌, ◌∷◌, [], ℕ, Bool, List, length, map, filter, flat_map, bytes_eq, if◌then◌else◌, OnOk, IfOk, IfErr};
 ghost use Rattle.std.specs.List.{list_any};
 ghost use Rattle.mr_model.specs.Texts.{Text};
 ghost use Rattle.mr_model.specs.Writes.{Write as WriteOfRoom, id_of};
@@ -6,18 +6,20 @@ ghost use Rattle.mr_model.specs.Exchange.{Item as ItemOfBatch};
 ghost use Rattle.mr_model.specs.Replica.{Replica};
 ghost use Rattle.mr_model.specs.Moving.{again};
 ghost use Rattle.mr_base.specs.Batches.{item_of};
-ghost use Rattle.mr_part.specs.KeptRows.{row_writes};
+ghost use Rattle.mr_part.specs.KeptRows.{row_writes, row_undos};
+ghost use Rattle.mr_part.specs.KeptWrites.{held_place};
+ghost use Rattle.mr_part.specs.Logged.{undo_with};
 ghost use Rattle.mr_part.specs.Moves.{IsMoving, ShowsMoves, rooms_named, moves_in, moves_row, is_anew};
 ghost use Rattle.mr_part.specs.Sets.{has_id, IsSetOf};
 ghost use Rattle.mr_replay.specs.Seen.{has_room};
 ghost use Rattle.mr_part.specs.Tails.{IsTail};
 
 use crate::kept_rows::KeptRow;
-use crate::kept_writes::NumberedWrite;
 use crate::room_sets::RoomSet;
 use crate::tail::{Tail, tail_of};
 use crate::touched::{IdSet, Touched, add_if_named};
 use mr_base::{Item, Refusal, Write};
+use mr_replay::UndoRow;
 use std::alloc::Global;
 
 /// Which tentative writes the items of a batch may move. It is made once for a batch.
@@ -83,46 +85,79 @@ pub fn moves_row(row: &KeptRow, rooms: &RoomSet, tail: &Tail) -> bool
     row.seq == 0 && may_move(&row.write, rooms, tail)
 }
 
+/// The writes that a batch executes anew, in the order of execution, each with what undid it; a write that the batch brings has what would
+/// undo it if it were logged.
+#[derive(Drop)]
+pub struct Anew {
+    pub writes: Vec<Write>,
+    pub was: Vec<UndoRow>,
+}
+
 /// The writes that are executed anew, if so many commits were known and these tentative writes may move: the new commits, and
-/// behind them those that may move.
+/// behind them those that may move. They are moved out of their rows.
 pub fn again_in(
     alloc: Global,
-    kept: &[NumberedWrite],
+    kept: Vec<KeptRow>,
     moving: &Moving,
     commits: u64,
-) -> Result<Vec<Write>, Refusal>
-    ensures writes { (a b : Replica) (items : List ItemOfBatch) (inside : WriteOfRoom → Bool) (touched : List Text) → IsMoving moving.now touched commits items
-        → (m : ShowsMoves a b items inside touched commits kept.now) → IfOk result (λ writes. writes.items ≡ again a items m.moves.news b) }
+) -> Result<Anew, Refusal>
+    ensures anew { (a b : Replica) (items : List ItemOfBatch) (inside : WriteOfRoom → Bool) (touched : List Text) → IsMoving moving.now touched commits items
+        → (m : ShowsMoves a b items inside touched commits kept.items)
+        → IfOk result (λ x. (x.writes.items ≡ again a items m.moves.news b) × (x.was.items ≡ map (undo_with (held_place a)) x.writes.items)) }
+    ensures as_many { IfOk result (λ x. length x.writes.items ≡ length x.was.items) }
     ensures only { IfErr result (λ e. e ≡ Refusal.OutOfMemory) }
 {
-    let writes = writes_anew(alloc, kept, &moving.rooms, &moving.tail, commits)?;
-    Ok(writes)
+    let anew = writes_anew(alloc, kept, &moving.rooms, &moving.tail, commits)?;
+    Ok(anew)
 }
 
 /// The same, if these are the rooms that the items touch, and this is their tail.
-pub fn writes_anew(
+fn writes_anew(
     alloc: Global,
-    kept: &[NumberedWrite],
+    kept: Vec<KeptRow>,
     rooms: &RoomSet,
     tail: &Tail,
     commits: u64,
-) -> Result<Vec<Write>, Refusal>
-    ensures writes { (touched : List Text) (items : List ItemOfBatch) → IsSetOf rooms.now touched → IsTail tail.now commits items
-        → IfOk result (λ writes. writes.items ≡ map (λ x. x.write) (filter (is_anew touched items commits) kept.now)) }
+) -> Result<Anew, Refusal>
+    ensures anew { (touched : List Text) (items : List ItemOfBatch) → IsSetOf rooms.now touched → IsTail tail.now commits items
+        → IfOk result (λ x. (x.writes.items ≡ row_writes (filter (is_anew touched items commits) kept.items)) × (x.was.items ≡ row_undos (filter (is_anew touched items commits) kept.items))) }
+    ensures as_many { IfOk result (λ x. length x.writes.items ≡ length x.was.items) }
     ensures only { IfErr result (λ e. e ≡ Refusal.OutOfMemory) }
 {
-    let mut writes = Vec::new(alloc);
-    for one in kept {
-        if is_anew(one, rooms, tail, commits) {
-            writes.push(one.write.copy(alloc)?)?;
-        }
+    let mut anew = Anew {
+        writes: Vec::new(alloc),
+        was: Vec::new(alloc),
+    };
+    for row in kept {
+        let is_its = is_anew(&row, rooms, tail, commits);
+        anew.push_if(is_its, row)?;
     }
-    Ok(writes)
+    Ok(anew)
 }
 
-fn is_anew(one: &NumberedWrite, rooms: &RoomSet, tail: &Tail, commits: u64) -> bool
+impl Anew {
+    /// One write more, if it is executed anew.
+    fn push_if(&mut self, is_its: bool, row: KeptRow) -> Result<(), Refusal>
+        ensures writes { OnOk result (self.new.writes.items ≡ (if is_its then self.old.writes.items ++ row.write ∷ [] else self.old.writes.items)) }
+        ensures was { OnOk result (self.new.was.items ≡ (if is_its then self.old.was.items ++ row.undo ∷ [] else self.old.was.items)) }
+        ensures only { IfErr result (λ e. e ≡ Refusal.OutOfMemory) }
+    {
+        if is_its {
+            let KeptRow {
+                write,
+                undo,
+                seq: _,
+            } = row;
+            self.writes.push(write)?;
+            self.was.push(undo)?;
+        }
+        Ok(())
+    }
+}
+
+fn is_anew(row: &KeptRow, rooms: &RoomSet, tail: &Tail, commits: u64) -> bool
     ensures { (touched : List Text) (items : List ItemOfBatch) → IsSetOf rooms.now touched → IsTail tail.now commits items
-        → result ≡ is_anew touched items commits one.now }
+        → result ≡ is_anew touched items commits row.now }
 {
-    one.seq > commits || (one.seq == 0 && may_move(&one.write, rooms, tail))
+    row.seq > commits || moves_row(row, rooms, tail)
 }

@@ -11,13 +11,11 @@ ghost use Rattle.mr_part.specs.KeptRows.{row_undos};
 ghost use Rattle.mr_part.specs.Moves.{IsMovingOf, moves_row};
 ghost use Rattle.mr_part.specs.Sets.{IsSetOf};
 ghost use Rattle.mr_part.specs.Tails.{IsTail};
-ghost use Rattle.mr_part.specs.PartMoves.{AreUndone};
 ghost use Rattle.mr_part.specs.Parts.{IsPartOf};
 
 use crate::Part;
 use crate::kept_rows::KeptRow;
 use crate::movable::{Moving, moves_row, moving_by};
-use crate::room_moves::{MovesOfRooms, undone_in_rooms};
 use crate::room_sets::RoomSet;
 use crate::tail::Tail;
 use mr_base::{Item, Refusal};
@@ -35,17 +33,14 @@ impl Part {
         Ok(moving)
     }
 
-    /// What undoes these tentative writes that the items may move: in the order of execution, and by rooms.
-    pub(crate) fn undone_by(&self, moving: &Moving) -> Result<(Vec<UndoRow>, MovesOfRooms), Refusal>
+    /// What undoes these tentative writes that the items may move, in the order of execution.
+    pub(crate) fn undone_by(&self, moving: &Moving) -> Result<Vec<UndoRow>, Refusal>
         ensures rows { (a : Replica) (items : List ItemOfBatch) → IsReplica a → IsPartOf self.now (OfItems items) a → IsMovingOf moving.now a items
-            → IfOk result (λ undone. undone.0.items ≡ map (undo_with (place_of a)) (filter (may_move_from a items) (tentative a))) }
-        ensures rooms { (a : Replica) (items : List ItemOfBatch) → IsReplica a → IsPartOf self.now (OfItems items) a → IsMovingOf moving.now a items
-            → IfOk result (λ undone. AreUndone undone.1 a items) }
+            → IfOk result (λ undone. undone.items ≡ map (undo_with (place_of a)) (filter (may_move_from a items) (tentative a))) }
         ensures only { IfErr result (λ e. e ≡ Refusal.OutOfMemory) }
     {
         let undo = moving_rows(self.alloc, &self.kept, &moving.rooms, &moving.tail)?;
-        let in_rooms = undone_in_rooms(self.alloc, &self.kept, &moving.rooms, &moving.tail)?;
-        Ok((undo, in_rooms))
+        Ok(undo)
     }
 }
 

@@ -1,16 +1,13 @@
-ghost use Rattle.std.specs.Prelude.{◌≡◌, ◌∷◌, ◌++◌, [], List, map, length, if◌then◌else◌, OnOk, IfOk, IfErr};
-ghost use Rattle.std.specs.BTreeMap.{get};
+ghost use Rattle.std.specs.Prelude.{◌≡◌, ◌∷◌, ◌++◌, ◌||◌, [], not, map, length, if◌then◌else◌, OnOk, IfOk, IfErr};
 ghost use Rattle.mr_model.specs.Replay.{Place as PlaceOfWrite};
 ghost use Rattle.mr_model.specs.Writes.{Write as WriteOfRoom};
-ghost use Rattle.mr_base.specs.Ids.{id_cmp};
-ghost use Rattle.mr_replay.specs.Places.{place_seen, UndoRow as UndoRowOfWrite};
-ghost use Rattle.mr_part.specs.Changed.{same_place, tells, picked};
+ghost use Rattle.mr_replay.specs.Places.{place_seen};
+ghost use Rattle.mr_part.specs.Changed.{same_place, is_new, is_elsewhere, picked};
 ghost use Rattle.mr_part.specs.Logged.{undo_with};
-ghost use Rattle.mr_part.specs.RoomMoves.{AreById};
 
-use crate::rows_by_id::{RowsById, rows_by_id};
 use mr_base::{Refusal, Write};
 use mr_replay::{Place, UndoRow};
+use mr_tables::summary::Summary;
 use std::alloc::Global;
 
 /// Writes whose rows in the log change, and what undoes each.
@@ -21,34 +18,19 @@ pub(crate) struct Changed {
 }
 
 /// Of the writes that were executed anew those whose rows in the log change: the new commits, of which there are so many and which
-/// stand first, and behind them those that have another place than the row says that undid them. The rows are those of the writes.
+/// stand first, and behind them those that are new by the old numbers or have another place than they had. The rows are those of the writes.
 pub(crate) fn changed_of(
     alloc: Global,
-    undone: &[UndoRow],
+    old: &Summary,
     news: u64,
-    again: &[Write],
+    writes: Vec<Write>,
+    was: &[UndoRow],
     rows: &[UndoRow],
 ) -> Result<Changed, Refusal>
-    ensures changed { (place : WriteOfRoom → PlaceOfWrite) → rows.now ≡ map (undo_with place) again.now
-        → IfOk result (λ c. (c.writes.items ≡ picked news undone.now place again.now) × (c.rows.items ≡ map (undo_with place) (picked news undone.now place again.now))) }
-    ensures as_many { IfOk result (λ c. length c.writes.items ≡ length c.rows.items) }
-    ensures only { IfErr result (λ e. e ≡ Refusal.OutOfMemory) }
-{
-    let was = rows_by_id(alloc, undone)?;
-    let changed = changed_by(alloc, &was, news, again, rows)?;
-    Ok(changed)
-}
-
-/// The same, if the rows that undid the writes stand by their ids.
-fn changed_by(
-    alloc: Global,
-    was: &RowsById,
-    news: u64,
-    again: &[Write],
-    rows: &[UndoRow],
-) -> Result<Changed, Refusal>
-    ensures changed { (undone : List UndoRowOfWrite) (place : WriteOfRoom → PlaceOfWrite) → AreById was.now undone → rows.now ≡ map (undo_with place) again.now
-        → IfOk result (λ c. (c.writes.items ≡ picked news undone place again.now) × (c.rows.items ≡ map (undo_with place) (picked news undone place again.now))) }
+    requires { (length writes.items ≡ length was.now) × (length writes.items ≡ length rows.now) }
+    ensures changed { (before place : WriteOfRoom → PlaceOfWrite) → was.now ≡ map (undo_with before) writes.items → rows.now ≡ map (undo_with place) writes.items
+        → IfOk result (λ c. (c.writes.items ≡ picked news (is_elsewhere old.now before place) writes.items)
+        × (c.rows.items ≡ map (undo_with place) (picked news (is_elsewhere old.now before place) writes.items))) }
     ensures as_many { IfOk result (λ c. length c.writes.items ≡ length c.rows.items) }
     ensures only { IfErr result (λ e. e ≡ Refusal.OutOfMemory) }
 {
@@ -56,44 +38,37 @@ fn changed_by(
         writes: Vec::new(alloc),
         rows: Vec::new(alloc),
     };
-    let count = again.len().min(rows.len());
-    for k in 0..count {
-        let stays = tells(was, &rows[k]);
-        let is_changed = ((k as u64) < news) | !stays;
-        changed.push_if(alloc, is_changed, &again[k], rows[k])?;
+    let mut k = 0;
+    for write in writes {
+        let moved = is_elsewhere(old, &write, was[k], rows[k]);
+        let is_changed = ((k as u64) < news) | moved;
+        changed.push_if(is_changed, write, rows[k])?;
+        k += 1;
     }
     Ok(changed)
 }
 
 impl Changed {
     /// One write more, if it is changed.
-    fn push_if(
-        &mut self,
-        alloc: Global,
-        is_changed: bool,
-        write: &Write,
-        row: UndoRow,
-    ) -> Result<(), Refusal>
-        ensures writes { OnOk result (self.new.writes.items ≡ (if is_changed then self.old.writes.items ++ write.now ∷ [] else self.old.writes.items)) }
+    fn push_if(&mut self, is_changed: bool, write: Write, row: UndoRow) -> Result<(), Refusal>
+        ensures writes { OnOk result (self.new.writes.items ≡ (if is_changed then self.old.writes.items ++ write ∷ [] else self.old.writes.items)) }
         ensures rows { OnOk result (self.new.rows.items ≡ (if is_changed then self.old.rows.items ++ row ∷ [] else self.old.rows.items)) }
         ensures only { IfErr result (λ e. e ≡ Refusal.OutOfMemory) }
     {
         if is_changed {
-            self.writes.push(write.copy(alloc)?)?;
+            self.writes.push(write)?;
             self.rows.push(row)?;
         }
         Ok(())
     }
 }
 
-/// Whether the row that undid the write tells the same place.
-fn tells(was: &RowsById, row: &UndoRow) -> bool
-    ensures { result ≡ tells (get id_cmp was.now row.now.id) row.now }
+/// Whether the write is new by the old numbers, or has another place than it had.
+fn is_elsewhere(old: &Summary, write: &Write, was: UndoRow, row: UndoRow) -> bool
+    ensures { result ≡ (is_new old.now write.now || not (same_place was.place row.place)) }
 {
-    match was.get(&row.id) {
-        Some(old) => same_place(old.place, row.place),
-        None => false,
-    }
+    let stamp = write.stamp;
+    stamp.n > old.tally(stamp.server).count || !same_place(was.place, row.place)
 }
 
 fn same_place(place: Place, other: Place) -> bool

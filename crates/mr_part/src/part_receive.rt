@@ -2,9 +2,8 @@ ghost use Rattle.std.specs.Prelude.{◌≡◌, ◌≢◌, ◌+◌, ◌<◌, ◌^
 ghost use Rattle.std.specs.List.{list_all};
 ghost use Rattle.mr_model.specs.Exchange.{Second, is_item, Header};
 ghost use Rattle.mr_model.specs.Moving.{may_move};
-ghost use Rattle.mr_model.specs.Refusals.{Refusal as RefusalOfBatch};
 ghost use Rattle.mr_model.specs.Replica.{Replica, IsReplica, tentative};
-ghost use Rattle.mr_model.specs.Replies.{Refused, Took};
+ghost use Rattle.mr_model.specs.Replies.{Took};
 ghost use Rattle.mr_model.specs.Scopes.{OfItems};
 ghost use Rattle.mr_model.specs.Step.{receive_batch, after_items};
 ghost use Rattle.mr_model.specs.Taking.{take_items};
@@ -12,19 +11,16 @@ ghost use Rattle.mr_model.specs.View.{place_of};
 ghost use Rattle.mr_base.specs.Batches.{item_of};
 ghost use Rattle.mr_tables.specs.Change.{ChangeView};
 ghost use Rattle.mr_part.specs.Answering.{NeverStore, nothing_taken};
-ghost use Rattle.mr_part.specs.DueLines.{IsRefused};
 ghost use Rattle.mr_part.specs.Moves.{IsMovingOf};
-ghost use Rattle.mr_part.specs.PartMoves.{AnswersItems, AreUndone};
+ghost use Rattle.mr_part.specs.PartMoves.{AnswersItems};
 ghost use Rattle.mr_part.specs.Parts.{IsPartOf, TakesPart};
 ghost use Rattle.mr_part.specs.Logged.{undo_with};
 
 use crate::Part;
-use crate::candidate::reached_with;
+use crate::candidate::{Reached, reached_with};
 use crate::changes::no_change;
-use crate::due_lines::due_line;
 use crate::movable::{Moving, again_in};
 use crate::part_moved::moved;
-use crate::room_moves::MovesOfRooms;
 use mr_base::{Batch, Item, Refusal};
 use mr_replay::UndoRow;
 use mr_tables::Change;
@@ -34,11 +30,9 @@ impl Part {
     /// changes in the tables. The part is used up: what it has is moved, and not copied.
     pub fn receive(self, batch: &Batch) -> Result<(u64, u64, Change), Refusal>
         ensures step { TakesPart (OfItems batch.now.items) (λ a. receive_batch a batch.now) (λ _ taken. Took taken.0 taken.1) (λ taken. taken.2) self result }
-        // A batch without a header takes no memory. A refusal, for the header or for a line, comes even if there is none.
+        // A batch without a header takes no memory, nor does a refusal for the header.
         ensures empty { batch.now.header ≡ None → (change : ChangeView) × (result ≡ Ok (0, 0, change)) }
         ensures due { (h : Header) → batch.now.header ≡ Some h → h.primary ≢ self.summary.primary → result ≡ Err Refusal.WrongPrimary }
-        ensures refused { (a : Replica) (r : RefusalOfBatch) → IsReplica a → IsPartOf self (OfItems batch.now.items) a
-            → (receive_batch a batch.now).reply ≡ Refused r → IsRefused result r }
         ensures own { NeverStore result }
     {
         // For the prover alone: the batch is within its limits.
@@ -48,9 +42,6 @@ impl Part {
         };
         if header.primary != self.summary.primary {
             return Err(Refusal::WrongPrimary);
-        }
-        if let Some(refusal) = due_line(self.alloc, &self.summary, &self.kept, &batch.items) {
-            return Err(refusal);
         }
         let taken = self.take_items(&batch.items)?;
         Ok(taken)
@@ -64,23 +55,21 @@ impl Part {
     {
         let moving = self.moving(items)?;
         let undone = self.undone_by(&moving)?;
-        let (undone, in_rooms) = undone;
-        let taken = self.take_undone(items, &moving, &undone, in_rooms)?;
+        let taken = self.take_undone(items, &moving, &undone)?;
         Ok(taken)
     }
 
-    /// The same, if the items may move these tentative writes, whose executions are undone so, in order and by rooms. The kept writes and the
-    /// board are moved into what is reached.
+    /// The same, if the items may move these tentative writes, whose executions are undone so. The kept writes and the board are moved into
+    /// what is reached.
     fn take_undone(
         self,
         items: &[Item],
         moving: &Moving,
         undone: &[UndoRow],
-        in_rooms: MovesOfRooms,
     ) -> Result<(u64, u64, Change), Refusal>
         ensures step { IsTrue (list_all (is_item Second) (map item_of items.now)) → length items.now + 2 < 2 ^ 64 → (a : Replica) → IsReplica a → IsPartOf self (OfItems (map item_of items.now)) a
             → IsMovingOf moving.now a (map item_of items.now) → undone.now ≡ map (undo_with (place_of a)) (filter (may_move a (map item_of items.now)) (tentative a))
-            → AreUndone in_rooms a (map item_of items.now) → AnswersItems a (map item_of items.now) result }
+            → AnswersItems a (map item_of items.now) result }
         ensures own { NeverStore result }
     {
         let had = self.kept.len() as u64;
@@ -92,11 +81,16 @@ impl Part {
             board,
         } = self;
         let reached = reached_with(alloc, summary, &rooms, kept, items)?;
-        let writes = (reached.kept.len() as u64).saturating_sub(had);
-        let commits = reached.summary.commits.saturating_sub(summary.commits);
-        let again = again_in(alloc, &reached.kept, moving, summary.commits)?;
+        let Reached {
+            summary: numbers,
+            rooms: names,
+            kept,
+        } = reached;
+        let writes = (kept.len() as u64).saturating_sub(had);
+        let commits = numbers.commits.saturating_sub(summary.commits);
+        let anew = again_in(alloc, kept, moving, summary.commits)?;
         let change = moved(
-            alloc, &summary, &rooms, board, &reached, undone, in_rooms, &again,
+            alloc, &summary, &rooms, board, &numbers, &names, undone, anew,
         )?;
         Ok((writes, commits, change))
     }

@@ -99,7 +99,7 @@ batch_refused bytes e (inr out) = inr out
 -- and is no failure of the store
 pub batch_not_store : (bytes : Text) (e : Refusal) → IsRefusedFor bytes e → ¬ (Refused (refusal_of e) ≡ Refused model.Store)
 batch_not_store bytes e (inl (i, line, first)) = λ told. absurd (cc (told, line))
-batch_not_store bytes e (inr (out, b, is)) = λ told. absurd (cc (told, ap refusal_of out))
+batch_not_store bytes e (inr out) = λ told. absurd (cc (told, ap refusal_of out))
 
 -- ---- positions
 

@@ -8,10 +8,10 @@ ghost use Rattle.mr_rows.specs.Reads.{ReadsKept};
 ghost use Rattle.mr_sql.specs.FailedReads.{FailsByStoreAlone};
 ghost use Rattle.mr_sql.specs.Numbers.{do_numbers_agree as agree_in};
 
-use mr_audit::do_numbers_agree;
 use mr_base::RoomName;
 use mr_rows::Idle;
 use mr_rows::all_tables::read_heads;
+use mr_tables::numbers::do_numbers_agree;
 use mr_tables::{MetaRow, Tables, VectorRow};
 use sqlite::{Alter, Error};
 use std::alloc::Global;

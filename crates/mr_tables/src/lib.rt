@@ -10,6 +10,7 @@ mod cancel_rows;
 mod change;
 pub mod choices;
 mod log_rows;
+pub mod numbers;
 pub mod place_rows;
 pub mod reading;
 pub mod rooms;

@@ -1,10 +1,9 @@
-ghost use Rattle.std.specs.Prelude.{◌≡◌, ◌+◌, ◌<◌, ◌^◌, [], length, map, OnOk, IfOk, IfErr};
-ghost use Rattle.mr_model.specs.Writes.{id_of};
+ghost use Rattle.std.specs.Prelude.{◌≡◌, ◌+◌, ◌<◌, ◌^◌, [], length, OnOk, IfOk, IfErr};
 ghost use Rattle.mr_model.specs.Tables.{cells_of, log_row_with, Booked, Erred, Cancelled, Cancel};
 ghost use Rattle.mr_base.specs.Actions.{action_of};
 ghost use Rattle.mr_replay.specs.Places.{place_seen};
 ghost use Rattle.mr_tables.specs.Cells.{action_cells, meeting_cells, place_row_of};
-ghost use Rattle.mr_tables.specs.Written.{meta_of, with_places, written, forgotten, with_place, with_write_rows};
+ghost use Rattle.mr_tables.specs.Written.{meta_of, with_places, written, with_place, with_write_rows};
 
 use crate::choices::choices_text;
 use crate::summary::Summary;
@@ -48,34 +47,6 @@ pub fn written(
         )?;
     }
     Ok(change)
-}
-
-/// Takes the rows of these writes out of the log.
-pub fn forgotten(alloc: Global, summary: &Summary, writes: &[Write]) -> Result<Change, Refusal>
-    ensures change { IfOk result (λ change. change ≡ forgotten (meta_of summary.now) (map id_of writes.now)) }
-    ensures only { IfErr result (λ e. e ≡ Refusal.OutOfMemory) }
-{
-    let dropped = ids_of(alloc, writes)?;
-    let mut change = empty(alloc, summary, Vec::new(alloc), Vec::new(alloc));
-    change.dropped = dropped;
-    Ok(change)
-}
-
-fn ids_of(alloc: Global, writes: &[Write]) -> Result<Vec<WriteId>, Refusal>
-    ensures ids { IfOk result (λ ids. ids.items ≡ map id_of writes.now) }
-    ensures only { IfErr result (λ e. e ≡ Refusal.OutOfMemory) }
-{
-    let mut ids = Vec::new(alloc);
-    for write in writes {
-        ids.push(write_id(write))?;
-    }
-    Ok(ids)
-}
-
-fn write_id(write: &Write) -> WriteId
-    ensures { result ≡ id_of write.now }
-{
-    write.stamp.id()
 }
 
 /// The row of `meta`.

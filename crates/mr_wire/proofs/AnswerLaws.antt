@@ -1,8 +1,7 @@
 -- What the answer of a reader says of the bytes.
-use Rattle.std.proofs.Common.{◌≡◌, true, Vec, Global, refl, sym, ap, ◌∙◌, ℕ, ◌+◌, List, [], ◌∷◌, Result, Ok, Err, ◌⊎◌, inl, inr, Option, Some, None}
+use Rattle.std.proofs.Common.{◌≡◌, true, Vec, Global, refl, sym, ap, ◌∙◌, ℕ, ◌+◌, List, [], ◌∷◌, Result, Ok, Err, inl, inr, Option, Some, None}
 use Rattle.std.proofs.lemmas.Option.{same_Some}
 use Rattle.std.specs.Prelude.{IfOk, IfErr, ok_or}
-use Rattle.std.specs.Result.{result_err}
 use Rattle.mr_model.specs.Positions.{Position, is_position, read_position, position_text}
 use Rattle.mr_model.proofs.PositionsReadBack.{read-position_text, read_position_text}
 use Rattle.mr_model.specs.Texts.{Text, whole_lines}
@@ -13,8 +12,8 @@ use Rattle.mr_model.proofs.FirstBadLine.{err_inj, ok_err, bad_line_is_first}
 use Rattle.mr_base.specs.RefusalViews.{refusal_of}
 use Rattle.mr_base.specs.Answers.{Gives}
 use Rattle.mr_base.specs.declared.refusals.Refusal.{Refusal}
-use Rattle.mr_base.specs.declared.refusals.Refusal.TheVariants.{OutOfMemory, BadLine}
-use Rattle.mr_wire.specs.BatchAnswers.{IsRefusedFor, IsDue, GivesDue, GivesSeen}
+use Rattle.mr_base.specs.declared.refusals.Refusal.TheVariants.{BadLine}
+use Rattle.mr_wire.specs.BatchAnswers.{IsRefusedFor, GivesSeen}
 
 pub ok_reads : (bytes : Text) (r : Result Batch Refusal) → Gives r (read_batch bytes) → IfOk r (λ b. ReadsAs bytes b)
 ok_reads bytes (Ok b) e = read_reads bytes b e
@@ -58,52 +57,10 @@ first_bad_of bytes e h =
     let (i, is) = bad_lines (whole_lines bytes) e h in
     (i, is, bad_line_is_first bytes i (h ∙ ap Err is))
 
-pub err_refuses : (bytes : Text) (r : Result Batch Refusal) → GivesDue r (read_batch bytes) → IfErr r (λ e. IsRefusedFor bytes e)
+pub err_refuses : (bytes : Text) (r : Result Batch Refusal) → Gives r (read_batch bytes) → IfErr r (λ e. IsRefusedFor bytes e)
 err_refuses bytes (Ok b) h = tt
-err_refuses bytes (Err e) h = go (read_batch bytes) refl h
-  where
-    go : (o : Result Batch model.Refusal) → read_batch bytes ≡ o → IsDue e o → IsRefusedFor bytes e
-    go (Ok b) is out = inr (out, b, read_reads bytes b is)
-    go (Err d) is due =
-        let (i, line, first) = first_bad_of bytes d is in
-        inl (i, ap refusal_of (due i line), first)
-
--- a refusal that is due is that of the definitions, and where they have none, memory ran out
-pub due_given : (bytes : Text) (r : Result Batch Refusal) → GivesDue r (read_batch bytes) → Gives r (read_batch bytes)
-due_given bytes (Ok b) h = h
-due_given bytes (Err e) h = go (read_batch bytes) refl h
-  where
-    go : (o : Result Batch model.Refusal) → read_batch bytes ≡ o → IsDue e o → (read_batch bytes ≡ Err (refusal_of e)) ⊎ (e ≡ OutOfMemory)
-    go (Ok b) is out = inr out
-    go (Err d) is due =
-        let (i, line, first) = first_bad_of bytes d is in
-        inl (is ∙ ap Err (line ∙ sym (ap refusal_of (due i line))))
-
-pub due_line : (i : ℕ) (r : Result Batch Refusal) (exact : Result Batch model.Refusal) → GivesDue r exact → exact ≡ Err (model.BadLine i) → r ≡ Err (BadLine i)
-due_line i (Ok b) exact h is = absurd (ok_err b (model.BadLine i) (sym h ∙ is))
-due_line i (Err e) exact h is = ap Err (go exact h is)
-  where
-    go : (o : Result Batch model.Refusal) → IsDue e o → o ≡ Err (model.BadLine i) → e ≡ BadLine i
-    go (Ok b) h is = absurd (ok_err b (model.BadLine i) is)
-    go (Err d) h is = h i (err_inj d (model.BadLine i) is)
-
--- the bad line that was read is the one that is due
-pub line_due : (k : ℕ) (exact : Result Batch model.Refusal) → Gives {T = Batch} (Err (BadLine k)) exact → IsDue (BadLine k) exact
-line_due k exact (inl is) = go exact is
-  where
-    go : (o : Result Batch model.Refusal) → o ≡ Err (model.BadLine k) → IsDue (BadLine k) o
-    go (Ok b) h = absurd (ok_err b (model.BadLine k) h)
-    go (Err d) h = λ i line. (let same : model.BadLine k ≡ model.BadLine i = sym (err_inj d (model.BadLine k) h) ∙ line in cc same)
-line_due k exact (inr out) = absurd (cc out)
-
--- the first bad line that was found is the one that is due, and where there is none, memory ran out
-pub found_due : (k : ℕ) (exact : Result Batch model.Refusal) → Some (model.BadLine k) ≡ result_err exact → IsDue (BadLine k) exact
-found_due k (Ok b) h = absurd (cc h)
-found_due k (Err d) h = λ i line. (let same : model.BadLine k ≡ model.BadLine i = same_Some (model.BadLine k) d h ∙ line in cc same)
-
-pub none_due : (exact : Result Batch model.Refusal) → None ≡ result_err exact → IsDue OutOfMemory exact
-none_due (Ok b) h = refl
-none_due (Err d) h = absurd (cc h)
+err_refuses bytes (Err e) (inl is) = inl (first_bad_of bytes (refusal_of e) is)
+err_refuses bytes (Err e) (inr out) = inr out
 
 -- ---- positions
 

@@ -4,8 +4,6 @@ pub mod LineLaws
 pub mod HeaderLaws
 pub mod Ascii
 pub mod LoopLaws
-pub mod TestedLaws
 pub mod WritingLaws
 pub mod AnswerLaws
 pub mod PositionTexts
-pub mod PositionTests

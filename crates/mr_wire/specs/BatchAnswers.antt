@@ -16,19 +16,9 @@ abbrev pub GivesSeen : {X Y : Type 0} → (X → Y) → Result X Refusal → Res
 GivesSeen view (Ok x) exact = exact ≡ Ok (view x)
 GivesSeen view (Err e) exact = (exact ≡ Err (refusal_of e)) ⊎ (e ≡ OutOfMemory)
 
--- the bad line of the definitions, or want of memory where they have none
-abbrev pub IsDue : {T : Type 0} → Refusal → Result T model.Refusal → Type 0
-IsDue e (Ok x) = e ≡ OutOfMemory
-IsDue e (Err due) = (i : ℕ) → due ≡ model.BadLine i → e ≡ BadLine i
-
--- the answer of the definitions, or want of memory in place of a value
-abbrev pub GivesDue : {T : Type 0} → Result T Refusal → Result T model.Refusal → Type 0
-GivesDue (Ok x) exact = exact ≡ Ok x
-GivesDue (Err e) exact = IsDue e exact
-
--- some line of the bytes is the first bad one, and the refusal names it; or memory ran out for a batch that they read as
+-- some line of the bytes is the first bad one, and the refusal names it; or memory ran out
 abbrev pub IsRefusedFor : List ℕ → Refusal → Type 0
-IsRefusedFor bytes e = ((i : ℕ) × (refusal_of e ≡ model.BadLine i) × exchange.IsFirstBadLine bytes i) ⊎ ((e ≡ OutOfMemory) × (b : exchange.Batch) × exchange.ReadsAs bytes b)
+IsRefusedFor bytes e = ((i : ℕ) × (refusal_of e ≡ model.BadLine i) × exchange.IsFirstBadLine bytes i) ⊎ (e ≡ OutOfMemory)
 
 -- items, and how they end
 abbrev pub body_seen : List Item → Ending → List exchange.Item × exchange.Ending

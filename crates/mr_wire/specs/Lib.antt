@@ -1,9 +1,8 @@
--- A reader of the contracts trusts Words, Fields and BatchAnswers. The others, LineAnswers, Lines, Tested and Writing, serve private
+-- A reader of the contracts trusts Words, Fields and BatchAnswers. The others, LineAnswers, Lines and Writing, serve private
 -- clauses and proofs alone.
 pub mod Words
 pub mod Fields
 pub mod LineAnswers
 pub mod Lines
-pub mod Tested
 pub mod BatchAnswers
 pub mod Writing

@@ -1,12 +1,11 @@
-ghost use Rattle.std.specs.Prelude.{◌≡◌, ℕ, ◌+◌, ◌<◌, ◌^◌, true, length, take, map, Ok, Err, IfOk, IfErr};
+ghost use Rattle.std.specs.Prelude.{◌≡◌, ℕ, ◌+◌, ◌<◌, ◌^◌, true, length, take, map, Ok, IfOk, IfErr};
 ghost use Rattle.mr_model.specs.Texts.{whole_lines};
-ghost use Rattle.mr_model.specs.Exchange.{Batch as BatchOfLines, is_batch, batch_text, batch_lines, read_body, read_end, read_batch, ReadsAs, IsFirstBadLine, front_of, lines_within};
+ghost use Rattle.mr_model.specs.Exchange.{Batch as BatchOfLines, is_batch, batch_text, batch_lines, read_body, read_end, read_batch, ReadsAs, front_of, lines_within};
 ghost use Rattle.mr_base.specs.Answers.{Gives};
 ghost use Rattle.mr_base.specs.Batches.{item_of, ending_seen};
 ghost use Rattle.mr_base.specs.Versions.{version_of};
-ghost use Rattle.mr_wire.specs.BatchAnswers.{GivesDue, IsDue, GivesSeen, IsRefusedFor, body_seen, with_front, refusal_at};
+ghost use Rattle.mr_wire.specs.BatchAnswers.{GivesSeen, IsRefusedFor, body_seen, with_front, refusal_at};
 
-use crate::bad_lines::first_bad_line;
 use crate::fault::LineFault;
 use crate::lines::{Line, read_header, read_line};
 use crate::words::first_line;
@@ -15,42 +14,20 @@ use std::alloc::Global;
 
 /// The batch that the bytes read as, of the version that its header names. A last piece without LF is dropped, and bytes
 /// without a whole line are the batch without a header. `BadLine(i)` if line i, counted from 1, is the first whole line
-/// that isn't of its place in this version.
+/// that isn't of its place in this version, unless memory runs out before it is read.
 pub fn read_batch(alloc: Global, bytes: &[u8]) -> Result<Batch, Refusal>
     ensures exact { Gives result (read_batch bytes.now) }
     // What is read is what the bytes read as.
     ensures reads { IfOk result (λ b. ReadsAs bytes.now b) }
     // What the bytes read as is read, unless memory runs out.
     ensures all_read { (b : BatchOfLines) → ReadsAs bytes.now b → Gives result (Ok b) }
-    // What is refused has a first bad line, or it reads as a batch for which memory ran out.
+    // What is refused has a first bad line, or memory ran out.
     ensures refuses { IfErr result (IsRefusedFor bytes.now) }
-    // If there is a bad line, the first is reported, even if there is no memory.
-    ensures due { (i : ℕ) → IsFirstBadLine bytes.now i → result ≡ Err (Refusal.BadLine i) }
     // The first bytes of a written batch read as the whole lines in them.
     ensures fronts { (n : ℕ) (b : BatchOfLines) → is_batch b ≡ true → bytes.now ≡ take n (batch_text b)
         → Gives result (Ok (front_of (lines_within n (batch_lines b)) b)) }
 {
-    batch_or_due(alloc, bytes)
-}
-
-// If memory runs out, the lines are still tested.
-fn batch_or_due(alloc: Global, bytes: &[u8]) -> Result<Batch, Refusal>
-    ensures { GivesDue result (read_batch bytes.now) }
-{
-    match batch_of(alloc, bytes) {
-        Ok(batch) => Ok(batch),
-        Err(Refusal::BadLine(line)) => Err(Refusal::BadLine(line)),
-        Err(_) => Err(bad_line_or_out_of_memory(bytes)),
-    }
-}
-
-fn bad_line_or_out_of_memory(bytes: &[u8]) -> Refusal
-    ensures { IsDue result (read_batch bytes.now) }
-{
-    match first_bad_line(bytes) {
-        Some(line) => Refusal::BadLine(line),
-        None => Refusal::OutOfMemory,
-    }
+    batch_of(alloc, bytes)
 }
 
 fn batch_of(alloc: Global, bytes: &[u8]) -> Result<Batch, Refusal>

@@ -2,8 +2,6 @@
 //! It stands on `mr_base`; the service, the words of commands and the network stand on it. README.md has lines of use, and what is proved.
 #![tactic(auto)]
 
-mod bad_lines;
-mod bad_positions;
 mod batches;
 mod fault;
 mod fields;

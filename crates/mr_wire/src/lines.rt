@@ -60,7 +60,7 @@ fn booking_of(alloc: Global, version: Version, text: &str) -> Result<Write, Line
 
 /// The stamp, the room and the target of a cancel, of whose line this stands behind the `X` and its space.
 #[tactic(auto, unfolding(crate::specs::Fields::cancel_parts))]
-pub(crate) fn cancel_parts(text: &str) -> Option<(Stamp, &str, WriteId)>
+fn cancel_parts(text: &str) -> Option<(Stamp, &str, WriteId)>
     ensures value { option_map (λ x. (x.0, x.1.now, x.2)) result ≡ cancel_parts text.now }
     ensures named { IfSome result (λ x. IsTrue (is_room_name x.1.now)) }
 {
@@ -93,7 +93,7 @@ fn cancel_on(alloc: Global, text: &str) -> Result<Write, LineFault>
 
 /// The commit on a line, of which this stands behind the `C` and its space.
 #[tactic(auto, using(std::proofs::lemmas::Bool::Decides::nat_tests), unfolding(crate::specs::Fields::commit_of))]
-pub(crate) fn commit_of(text: &str) -> Option<Item>
+fn commit_of(text: &str) -> Option<Item>
     ensures { option_map item_of result ≡ commit_of text.now }
 {
     let (seq, rest) = number_off(text, 1, GREATEST_COMMIT)?;

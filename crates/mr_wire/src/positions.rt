@@ -1,4 +1,4 @@
-ghost use Rattle.std.specs.Prelude.{◌≡◌, ◌==◌, ◌-◌, true, length, slice_index, option_map, ok_or, IfOk, None, Ok, Err};
+ghost use Rattle.std.specs.Prelude.{◌≡◌, ◌==◌, ◌-◌, true, length, slice_index, option_map, ok_or, IfOk, Ok};
 ghost use Rattle.mr_model.specs.Texts.{whole_lines};
 ghost use Rattle.mr_model.specs.Refusals.{BadPosition};
 ghost use Rattle.mr_model.specs.Positions.{Position as PositionOfReplica, is_position, position_text, read_position};
@@ -8,7 +8,6 @@ ghost use Rattle.mr_base.specs.Versions.{version_of};
 ghost use Rattle.mr_wire.specs.Fields.{servers_of as servers_read, parse_commits as commits_read, parse_count as count_read, counts_until_end, no_more, with_counts, position_on};
 ghost use Rattle.mr_wire.specs.LineAnswers.{GivesRead};
 
-use crate::bad_positions::is_position_text;
 use crate::fault::LineFault;
 use crate::fields::{behind_word, server_and};
 use crate::versions::{position_word, servers_under};
@@ -16,28 +15,24 @@ use crate::words::first_line_of_text;
 use mr_base::{GREATEST_COMMIT, GREATEST_COUNT, Position, Refusal, ServerId, Version, read_number};
 use std::alloc::Global;
 
-/// The position whose text the bytes are, all of them; `BadPosition` for anything else, a cut text too.
+/// The position whose text the bytes are, all of them; `BadPosition` for anything else, a cut text too, unless memory runs out.
 pub fn read_position(alloc: Global, bytes: &[u8]) -> Result<Position, Refusal>
     ensures exact { Gives result (ok_or (read_position bytes.now) BadPosition) }
     // What is read has these bytes as its text.
     ensures reads { IfOk result (λ p. bytes.now ≡ position_text p) }
     // The text of each position is read, unless memory runs out.
     ensures all_read { (p : PositionOfReplica) → is_position p ≡ true → bytes.now ≡ position_text p → Gives result (Ok p) }
-    // What is no position's text is refused as that, even if there is no memory.
-    ensures due { read_position bytes.now ≡ None → result ≡ Err Refusal.BadPosition }
 {
     position_or_refusal(alloc, bytes)
 }
 
-// If memory runs out, the text is still tested.
 fn position_or_refusal(alloc: Global, bytes: &[u8]) -> Result<Position, Refusal>
     ensures exact { Gives result (ok_or (read_position bytes.now) BadPosition) }
-    ensures due { read_position bytes.now ≡ None → result ≡ Err Refusal.BadPosition }
 {
     match position_of(alloc, bytes) {
         Ok(position) => Ok(position),
-        Err(LineFault::OutOfMemory) if is_position_text(bytes) => Err(Refusal::OutOfMemory),
-        Err(_) => Err(Refusal::BadPosition),
+        Err(LineFault::OutOfMemory) => Err(Refusal::OutOfMemory),
+        Err(LineFault::NotALine) => Err(Refusal::BadPosition),
     }
 }
 
@@ -55,7 +50,7 @@ fn position_of(alloc: Global, bytes: &[u8]) -> Result<Position, LineFault>
 }
 
 // Whether the last line is whole.
-pub(crate) fn ends_in_line(text: &str) -> bool
+fn ends_in_line(text: &str) -> bool
     ensures { result ≡ (slice_index text.now (length text.now - 1) == 10) }
 {
     text.ends_with('\n')
@@ -86,7 +81,7 @@ fn position_of_lines(alloc: Global, text: &str) -> Result<Position, LineFault>
 }
 
 #[tactic(auto, unfolding(crate::specs::Fields::servers_of))]
-pub(crate) fn servers_in(line: &str) -> Option<(Version, ServerId, ServerId)>
+fn servers_in(line: &str) -> Option<(Version, ServerId, ServerId)>
     ensures { option_map (λ x. (version_of x.0, x.1, x.2)) result ≡ servers_read line.now }
 {
     servers_under(
@@ -97,7 +92,7 @@ pub(crate) fn servers_in(line: &str) -> Option<(Version, ServerId, ServerId)>
 }
 
 #[tactic(auto, unfolding(crate::specs::Fields::parse_commits))]
-pub(crate) fn commits_in(line: &str) -> Option<u64>
+fn commits_in(line: &str) -> Option<u64>
     ensures { result ≡ commits_read line.now }
 {
     let rest = behind_word("K", line)?;
@@ -105,7 +100,7 @@ pub(crate) fn commits_in(line: &str) -> Option<u64>
 }
 
 #[tactic(auto, using(std::proofs::lemmas::Bool::Decides::nat_tests), unfolding(crate::specs::Fields::parse_count))]
-pub(crate) fn count_in(line: &str) -> Option<(ServerId, u32)>
+fn count_in(line: &str) -> Option<(ServerId, u32)>
     ensures { option_map (λ c. record { server = c.0; count = c.1 }) result ≡ count_read line.now }
 {
     let rest = behind_word("V", line)?;

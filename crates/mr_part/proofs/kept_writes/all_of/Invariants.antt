@@ -4,4 +4,4 @@ use Rattle.mr_part.proofs.kept_writes.all_of.Given as goal
 
 -- those so far
 abbrev pub invariant-loop-one : goal.invariant-loop-one
-invariant-loop-one l = l.writes.items ≡ values_of l.yielded
+invariant-loop-one l = l.rows.items ≡ values_of l.yielded

@@ -1,27 +1,22 @@
-use Rattle.std.proofs.Common.{◌∙◌, Ok, ap, sym, subst}
-use Rattle.mr_base.specs.Answers.{OrOutOfMemory}
+use Rattle.std.proofs.Common.{◌∙◌, length, ap, sym}
+use Rattle.mr_part.specs.declared.kept_rows.KeptRow.{KeptRow}
 use Rattle.mr_part.specs.Moves.{is_anew}
-use Rattle.mr_part.specs.declared.kept_writes.NumberedWrite.{NumberedWrite}
-use Rattle.mr_tables.proofs.LogRows.{answered}
-use Rattle.mr_part.proofs.Moves.{pick_more, pick_none, pick_end}
+use Rattle.mr_part.proofs.ChangedRows.{as_many-more}
+use Rattle.mr_part.proofs.Moves.{passed_more}
 use Rattle.mr_part.proofs.movable.writes_anew.Goals as goal
-use Rattle.mr_part.proofs.movable.writes_anew.Goals.{then-is_anew+in_ok-copy+in_ok-push, else-is_anew}
 
-pub loop-one-preserved : goal.loop-one-preserved
-loop-one-preserved c = λ touched items set tail.
-    let p = is_anew touched items c.args.commits in
-    let xs = c.args.kept.now in
-    let k = c.loop-one.one-index in
-    let x = c.one-item.result in
-    let old = c.loop-one.writes.items in
-    elim c.if-is_anew.branch [
-      | then-is_anew+in_ok-copy+in_ok-push w ↦
-          (let copied = answered w.in_ok-copy.field-0 x.write (subst (λ r. OrOutOfMemory r (Ok x.write)) w.in_ok-copy.was w.copy.ensures) in
-          let next = ap (λ v. v.items) w.writes-is ∙ w.in_ok-push.ensures.items in
-          pick_more (λ (y : NumberedWrite). y.write) p xs k x old c.if-is_anew.writes.items w.in_ok-copy.field-0 c.loop-one-test.true c.one-item.is (sym (c.is_anew.ensures touched items set tail) ∙ w.if-is_anew.true) copied next (c.loop-one.invariant touched items set tail))
-      | else-is_anew w ↦ pick_none (λ (y : NumberedWrite). y.write) p xs k x old c.if-is_anew.writes.items c.loop-one-test.true c.one-item.is (sym (c.is_anew.ensures touched items set tail) ∙ w.if-is_anew.false) (ap (λ v. v.items) w.writes-is) (c.loop-one.invariant touched items set tail)
-    ]
-
-pub returns-clause-writes : goal.returns-clause-writes
-returns-clause-writes c = λ touched items set tail.
-    pick_end (λ (y : NumberedWrite). y.write) (is_anew touched items c.args.commits) c.args.kept.now c.loop-one.one-index c.loop-one.writes.items c.loop-one-test.false (c.loop-one.invariant touched items set tail)
+pub loop-row-preserved : goal.loop-row-preserved
+loop-row-preserved c =
+    let row = c.in-Some.row in
+    let old = c.loop-row.anew in
+    let e = c.in_ok-push_if.ensures in
+    record {
+      as_many = ap length e.writes ∙ as_many-more c.is_anew-is_its.result old.writes.items old.was.items row.write row.undo c.loop-row.invariant.as_many ∙ sym (ap length e.was);
+      anew = λ touched items set tail.
+          let p = is_anew touched items c.args.commits in
+          let is = c.is_anew-is_its.ensures touched items set tail in
+          let had = c.loop-row.invariant.anew touched items set tail in (
+            passed_more (λ (x : KeptRow). x.write) p c.loop-row.yielded row c.is_anew-is_its.result old.writes.items c.push_if.new.self.writes.items is e.writes had.0,
+            passed_more (λ (x : KeptRow). x.undo) p c.loop-row.yielded row c.is_anew-is_its.result old.was.items c.push_if.new.self.was.items is e.was had.1,
+          );
+    }

@@ -18,4 +18,4 @@ returns-in_err-kept-clause-reached c = λ a inside p sound shows.
 pub returns-clause-reached : goal.returns-clause-reached
 returns-clause-reached c = λ a inside p sound shows.
     let rooms = c.in_ok-rooms.ensures.names ∙ keys_told c.args.self.rooms p.replica.rooms c.names_of.ensures.ordered sound.rooms_in_order shows.rooms in
-    taken-all a inside c.args.self p c.in_ok-rooms.rooms.items c.in_ok-kept.kept.items shows rooms (c.in_ok-kept.ensures.sorted p.replica inside sound shows.kept)
+    taken-all a inside c.args.self p c.in_ok-rooms.rooms.items c.in_ok-kept.kept.items shows rooms (c.in_ok-kept.ensures.sorted a p.replica inside sound shows.kept)

@@ -1,7 +1,6 @@
-use Rattle.std.proofs.Common.{◌≡◌, ℕ, ◌+◌, ◌<◌, ◌==◌, ◌⊎◌, true, false, None, Some, Ok, Err, IfOk, Result, List, map, length, ap, refl, sym, ◌∙◌, subst, inl, arith}
+use Rattle.std.proofs.Common.{◌≡◌, ℕ, ◌+◌, ◌<◌, ◌==◌, ◌⊎◌, true, false, None, Some, Ok, Err, IfOk, Result, List, map, length, ap, sym, ◌∙◌, subst, inl, arith}
 use Rattle.std.proofs.lemmas.Result.{err_from_is_err_and}
 use Rattle.mr_model.specs.Exchange.{Batch, Header, Item}
-use Rattle.mr_model.specs.Refusals.{WrongPrimary}
 use Rattle.mr_model.specs.Replica.{Replica}
 use Rattle.mr_model.specs.Replies.{Took}
 use Rattle.mr_model.specs.Scopes.{OfItems}
@@ -14,11 +13,7 @@ use Rattle.mr_base.specs.declared.refusals.Refusal.TheVariants.{OutOfMemory}
 use Rattle.mr_tables.specs.Change.{ChangeView, changed}
 use Rattle.mr_tables.specs.Written.{meta_of}
 use Rattle.mr_part.specs.Answering.{nothing_taken, reply_with}
-use Rattle.mr_part.specs.Parts.{PartView, IsPartOf, kept_in}
-use Rattle.mr_base.specs.RefusalViews.{refusal_of}
-use Rattle.mr_tables.specs.Summary.{summary_of}
-use Rattle.mr_part.specs.KeptRows.{kept_row}
-use Rattle.mr_part.proofs.DueLines.{told_items, due_step, none_due, same_refusal, took_not}
+use Rattle.mr_part.specs.Parts.{PartView, IsPartOf}
 use Rattle.mr_part.proofs.Receiving.{items_good, own_primary, receive_done}
 use Rattle.mr_part.proofs.ReceivingPart.{receive_nothing, other_primary, receive_other}
 use Rattle.mr_part.proofs.part.Part.receive.Goals as goal
@@ -33,12 +28,12 @@ returns-in_err-taken-clause-step c = λ a sound part.
     let b = c.batch.view_is in
     let h : Header = record { from = c.in-Some.header.from; primary = c.in-Some.header.primary } in
     let header : c.args.batch.now.header ≡ Some h = sym (ap (λ (b : Batch). b.header) b) ∙ ap header_of c.in-Some.is in
-    let items : map item_of c.deref-3.result.now ≡ c.args.batch.now.items = ap (map item_of) c.deref-3.ensures.value ∙ ap (λ (b : Batch). b.items) b in
-    let good = items_good c.args.batch.now h (map item_of c.deref-3.result.now) header items c.is_within_limits.ensures in
+    let items : map item_of c.deref.result.now ≡ c.args.batch.now.items = ap (map item_of) c.deref.ensures.value ∙ ap (λ (b : Batch). b.items) b in
+    let good = items_good c.args.batch.now h (map item_of c.deref.result.now) header items c.is_within_limits.ensures in
     let ok = c.batch.inside.items.ok in
     let small = c.batch.inside.items.small in
-    let size = ap length c.deref-3.ensures.value in
-    let short : length c.deref-3.result.now + 2 < 18446744073709551616 = omega arith in
+    let size = ap length c.deref.ensures.value in
+    let short : length c.deref.result.now + 2 < 18446744073709551616 = omega arith in
     let primary = ap (λ (v : PartView). v.summary.primary) (c.self.view_is ∙ part) in
     let own : (c.in-Some.header.primary == a.primary) ≡ true = own_primary c.in-Some.header.primary c.self.inside.summary.primary a.primary c.ne.result c.ne.ensures c.if-ne.false primary in
     let step = ap (λ xs. after_items a (take_items xs 2 (Ok (nothing_taken a)))) items ∙ sym (receive_done a c.args.batch.now h header own) in
@@ -51,12 +46,12 @@ returns-clause-step c = λ a sound part.
     let b = c.batch.view_is in
     let h : Header = record { from = c.in-Some.header.from; primary = c.in-Some.header.primary } in
     let header : c.args.batch.now.header ≡ Some h = sym (ap (λ (b : Batch). b.header) b) ∙ ap header_of c.in-Some.is in
-    let items : map item_of c.deref-3.result.now ≡ c.args.batch.now.items = ap (map item_of) c.deref-3.ensures.value ∙ ap (λ (b : Batch). b.items) b in
-    let good = items_good c.args.batch.now h (map item_of c.deref-3.result.now) header items c.is_within_limits.ensures in
+    let items : map item_of c.deref.result.now ≡ c.args.batch.now.items = ap (map item_of) c.deref.ensures.value ∙ ap (λ (b : Batch). b.items) b in
+    let good = items_good c.args.batch.now h (map item_of c.deref.result.now) header items c.is_within_limits.ensures in
     let ok = c.batch.inside.items.ok in
     let small = c.batch.inside.items.small in
-    let size = ap length c.deref-3.ensures.value in
-    let short : length c.deref-3.result.now + 2 < 18446744073709551616 = omega arith in
+    let size = ap length c.deref.ensures.value in
+    let short : length c.deref.result.now + 2 < 18446744073709551616 = omega arith in
     let primary = ap (λ (v : PartView). v.summary.primary) (c.self.view_is ∙ part) in
     let own : (c.in-Some.header.primary == a.primary) ≡ true = own_primary c.in-Some.header.primary c.self.inside.summary.primary a.primary c.ne.result c.ne.ensures c.if-ne.false primary in
     let step = ap (λ xs. after_items a (take_items xs 2 (Ok (nothing_taken a)))) items ∙ sym (receive_done a c.args.batch.now h header own) in
@@ -77,96 +72,3 @@ returns-then-ne-clause-step c = λ a sound part.
     let primary = ap (λ (v : PartView). v.summary.primary) (c.self.view_is ∙ part) in
     let other : (c.in-Some.header.primary == a.primary) ≡ false = other_primary c.in-Some.header.primary c.self.inside.summary.primary a.primary c.ne.result c.ne.ensures c.if-ne.true primary in
     inl (sym (receive_other a c.args.batch.now h header other), tt)
-
--- a line that is refused
-pub returns-in-Some-due_line-clause-step : goal.returns-in-Some-due_line-clause-step
-returns-in-Some-due_line-clause-step c = λ a sound part.
-    let b = c.batch.view_is in
-    let h : Header = record { from = c.in-Some.header.from; primary = c.in-Some.header.primary } in
-    let header : c.args.batch.now.header ≡ Some h = sym (ap (λ (b : Batch). b.header) b) ∙ ap header_of c.in-Some.is in
-    let items : map item_of c.deref-2.result.now ≡ c.args.batch.now.items = ap (map item_of) c.deref-2.ensures.value ∙ ap (λ (b : Batch). b.items) b in
-    let good = items_good c.args.batch.now h (map item_of c.deref-2.result.now) header items c.is_within_limits.ensures in
-    let ok = c.batch.inside.items.ok in
-    let small = c.batch.inside.items.small in
-    let size = ap length c.deref-2.ensures.value in
-    let short : length c.deref-2.result.now + 2 < 18446744073709551616 = omega arith in
-    let numbers : c.self.inside.summary ≡ summary_of a = ap (λ (v : PartView). v.summary) (c.self.view_is ∙ part) in
-    let mine = subst (λ (xs : List Item). IsPartOf c.args.self (OfItems xs) a) (sym items) part in
-    let rows : c.deref.result.now ≡ map (kept_row a) (kept_in (OfItems (map item_of c.deref-2.result.now)) a) = c.deref.ensures.value ∙ ap (λ (v : PartView). v.kept) (c.self.view_is ∙ mine) in
-    let primary = ap (λ (v : PartView). v.summary.primary) (c.self.view_is ∙ part) in
-    let own : (c.in-Some.header.primary == a.primary) ≡ true = own_primary c.in-Some.header.primary c.self.inside.summary.primary a.primary c.ne.result c.ne.ensures c.if-ne.false primary in
-    let told = told_items a (map item_of c.deref-2.result.now) c.self.inside.summary c.deref.result.now c.due_line.result sound good numbers rows (c.due_line.ensures.due short) in
-    let step = due_step a c.args.batch.now h (map item_of c.deref-2.result.now) c.due_line.result c.in-Some-due_line.refusal header own items told c.in-Some-due_line.is in
-    subst (Owed a (Err c.in-Some-due_line.refusal)) (sym step) (inl (refl, tt))
-
-pub returns-in-Some-due_line-clause-refused : goal.returns-in-Some-due_line-clause-refused
-returns-in-Some-due_line-clause-refused c = λ a r sound part refused.
-    let b = c.batch.view_is in
-    let h : Header = record { from = c.in-Some.header.from; primary = c.in-Some.header.primary } in
-    let header : c.args.batch.now.header ≡ Some h = sym (ap (λ (b : Batch). b.header) b) ∙ ap header_of c.in-Some.is in
-    let items : map item_of c.deref-2.result.now ≡ c.args.batch.now.items = ap (map item_of) c.deref-2.ensures.value ∙ ap (λ (b : Batch). b.items) b in
-    let good = items_good c.args.batch.now h (map item_of c.deref-2.result.now) header items c.is_within_limits.ensures in
-    let ok = c.batch.inside.items.ok in
-    let small = c.batch.inside.items.small in
-    let size = ap length c.deref-2.ensures.value in
-    let short : length c.deref-2.result.now + 2 < 18446744073709551616 = omega arith in
-    let numbers : c.self.inside.summary ≡ summary_of a = ap (λ (v : PartView). v.summary) (c.self.view_is ∙ part) in
-    let mine = subst (λ (xs : List Item). IsPartOf c.args.self (OfItems xs) a) (sym items) part in
-    let rows : c.deref.result.now ≡ map (kept_row a) (kept_in (OfItems (map item_of c.deref-2.result.now)) a) = c.deref.ensures.value ∙ ap (λ (v : PartView). v.kept) (c.self.view_is ∙ mine) in
-    let primary = ap (λ (v : PartView). v.summary.primary) (c.self.view_is ∙ part) in
-    let own : (c.in-Some.header.primary == a.primary) ≡ true = own_primary c.in-Some.header.primary c.self.inside.summary.primary a.primary c.ne.result c.ne.ensures c.if-ne.false primary in
-    let told = told_items a (map item_of c.deref-2.result.now) c.self.inside.summary c.deref.result.now c.due_line.result sound good numbers rows (c.due_line.ensures.due short) in
-    let step = due_step a c.args.batch.now h (map item_of c.deref-2.result.now) c.due_line.result c.in-Some-due_line.refusal header own items told c.in-Some-due_line.is in
-    same_refusal (refusal_of c.in-Some-due_line.refusal) r (sym (ap (λ (x : After). x.reply) step) ∙ refused)
-
--- where none is refused, the batch isn't
-pub returns-in_err-taken-clause-refused : goal.returns-in_err-taken-clause-refused
-returns-in_err-taken-clause-refused c = λ a r sound part refused.
-    let b = c.batch.view_is in
-    let h : Header = record { from = c.in-Some.header.from; primary = c.in-Some.header.primary } in
-    let header : c.args.batch.now.header ≡ Some h = sym (ap (λ (b : Batch). b.header) b) ∙ ap header_of c.in-Some.is in
-    let items : map item_of c.deref-2.result.now ≡ c.args.batch.now.items = ap (map item_of) c.deref-2.ensures.value ∙ ap (λ (b : Batch). b.items) b in
-    let good = items_good c.args.batch.now h (map item_of c.deref-2.result.now) header items c.is_within_limits.ensures in
-    let ok = c.batch.inside.items.ok in
-    let small = c.batch.inside.items.small in
-    let size = ap length c.deref-2.ensures.value in
-    let short : length c.deref-2.result.now + 2 < 18446744073709551616 = omega arith in
-    let numbers : c.self.inside.summary ≡ summary_of a = ap (λ (v : PartView). v.summary) (c.self.view_is ∙ part) in
-    let mine = subst (λ (xs : List Item). IsPartOf c.args.self (OfItems xs) a) (sym items) part in
-    let rows : c.deref.result.now ≡ map (kept_row a) (kept_in (OfItems (map item_of c.deref-2.result.now)) a) = c.deref.ensures.value ∙ ap (λ (v : PartView). v.kept) (c.self.view_is ∙ mine) in
-    let primary = ap (λ (v : PartView). v.summary.primary) (c.self.view_is ∙ part) in
-    let own : (c.in-Some.header.primary == a.primary) ≡ true = own_primary c.in-Some.header.primary c.self.inside.summary.primary a.primary c.ne.result c.ne.ensures c.if-ne.false primary in
-    let told = told_items a (map item_of c.deref-2.result.now) c.self.inside.summary c.deref.result.now c.due_line.result sound good numbers rows (c.due_line.ensures.due short) in
-    absurd (none_due a c.args.batch.now h (map item_of c.deref-2.result.now) c.due_line.result r header own items told c.in_default-due_line.is refused)
-
-pub returns-clause-refused : goal.returns-clause-refused
-returns-clause-refused c = λ a r sound part refused.
-    let b = c.batch.view_is in
-    let h : Header = record { from = c.in-Some.header.from; primary = c.in-Some.header.primary } in
-    let header : c.args.batch.now.header ≡ Some h = sym (ap (λ (b : Batch). b.header) b) ∙ ap header_of c.in-Some.is in
-    let items : map item_of c.deref-2.result.now ≡ c.args.batch.now.items = ap (map item_of) c.deref-2.ensures.value ∙ ap (λ (b : Batch). b.items) b in
-    let good = items_good c.args.batch.now h (map item_of c.deref-2.result.now) header items c.is_within_limits.ensures in
-    let ok = c.batch.inside.items.ok in
-    let small = c.batch.inside.items.small in
-    let size = ap length c.deref-2.ensures.value in
-    let short : length c.deref-2.result.now + 2 < 18446744073709551616 = omega arith in
-    let numbers : c.self.inside.summary ≡ summary_of a = ap (λ (v : PartView). v.summary) (c.self.view_is ∙ part) in
-    let mine = subst (λ (xs : List Item). IsPartOf c.args.self (OfItems xs) a) (sym items) part in
-    let rows : c.deref.result.now ≡ map (kept_row a) (kept_in (OfItems (map item_of c.deref-2.result.now)) a) = c.deref.ensures.value ∙ ap (λ (v : PartView). v.kept) (c.self.view_is ∙ mine) in
-    let primary = ap (λ (v : PartView). v.summary.primary) (c.self.view_is ∙ part) in
-    let own : (c.in-Some.header.primary == a.primary) ≡ true = own_primary c.in-Some.header.primary c.self.inside.summary.primary a.primary c.ne.result c.ne.ensures c.if-ne.false primary in
-    let told = told_items a (map item_of c.deref-2.result.now) c.self.inside.summary c.deref.result.now c.due_line.result sound good numbers rows (c.due_line.ensures.due short) in
-    absurd (none_due a c.args.batch.now h (map item_of c.deref-2.result.now) c.due_line.result r header own items told c.in_default-due_line.is refused)
-
-pub returns-then-ne-clause-refused : goal.returns-then-ne-clause-refused
-returns-then-ne-clause-refused c = λ a r sound part refused.
-    let h : Header = record { from = c.in-Some.header.from; primary = c.in-Some.header.primary } in
-    let header : c.args.batch.now.header ≡ Some h = sym (ap (λ (b : Batch). b.header) c.batch.view_is) ∙ ap header_of c.in-Some.is in
-    let primary = ap (λ (v : PartView). v.summary.primary) (c.self.view_is ∙ part) in
-    let other : (c.in-Some.header.primary == a.primary) ≡ false = other_primary c.in-Some.header.primary c.self.inside.summary.primary a.primary c.ne.result c.ne.ensures c.if-ne.true primary in
-    same_refusal WrongPrimary r (sym (receive_other a c.args.batch.now h header other) ∙ refused)
-
-pub returns-in_default-clause-refused : goal.returns-in_default-clause-refused
-returns-in_default-clause-refused c = λ a r sound part refused.
-    let header : c.args.batch.now.header ≡ None = sym (ap (λ (b : Batch). b.header) c.batch.view_is) ∙ ap header_of c.in_default.is in
-    absurd (took_not 0 0 r (sym (ap (λ (x : After). x.reply) (receive_nothing a c.args.batch.now header)) ∙ refused))

@@ -20,13 +20,11 @@ returns-in_err-taken-clause-step c = λ good short a sound part.
     let items = map item_of c.args.items.now in
     let moving = c.in_ok-moving.ensures.moving a sound part in
     let undone = c.deref.ensures.value ∙ c.in_ok-undone.ensures.rows a items sound part moving in
-    let in_rooms = c.in_ok-undone.ensures.rooms a items sound part moving in
-    subst (AnswersItems a items) (sym (x.1 ∙ ap Err x.2)) (c.in_err-taken.ensures.step good short a sound part moving undone in_rooms)
+    subst (AnswersItems a items) (sym (x.1 ∙ ap Err x.2)) (c.in_err-taken.ensures.step good short a sound part moving undone)
 
 pub returns-clause-step : goal.returns-clause-step
 returns-clause-step c = λ good short a sound part.
     let items = map item_of c.args.items.now in
     let moving = c.in_ok-moving.ensures.moving a sound part in
     let undone = c.deref.ensures.value ∙ c.in_ok-undone.ensures.rows a items sound part moving in
-    let in_rooms = c.in_ok-undone.ensures.rooms a items sound part moving in
-    c.in_ok-taken.ensures.step good short a sound part moving undone in_rooms
+    c.in_ok-taken.ensures.step good short a sound part moving undone

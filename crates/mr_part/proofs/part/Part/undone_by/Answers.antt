@@ -4,15 +4,13 @@ use Rattle.std.specs.List.{filter}
 use Rattle.mr_model.specs.Replica.{tentative}
 use Rattle.mr_model.specs.Moving.{may_move}
 use Rattle.mr_model.specs.Scopes.{OfItems}
-use Rattle.mr_model.specs.View.{of_room, place_of}
+use Rattle.mr_model.specs.View.{place_of}
 use Rattle.mr_part.specs.KeptRows.{row_undos}
 use Rattle.mr_part.specs.Moves.{moves_row}
-use Rattle.mr_part.specs.RoomMoves.{rows_of_room}
-use Rattle.mr_part.specs.PartMoves.{AreUndone}
 use Rattle.mr_part.specs.Parts.{PartView, kept_in}
 use Rattle.mr_part.specs.Taken.{is_inside}
 use Rattle.mr_part.specs.Logged.{undo_with}
-use Rattle.mr_part.proofs.Moves.{undone_picked, undos_moved, undos_moved_in}
+use Rattle.mr_part.proofs.Moves.{undone_picked, undos_moved}
 use Rattle.mr_part.proofs.part.Part.undone_by.Goals as goal
 
 pub returns-clause-rows : goal.returns-clause-rows
@@ -23,32 +21,7 @@ returns-clause-rows c = λ a items sound part m.
     ∙ undos_moved a m.touched items (length a.commits) (kept_in (OfItems items) a)
     ∙ ap (map (undo_with (place_of a))) (undone_picked a items (is_inside a items) m.touched sound (λ w e. e) m.are_touched)
 
-pub returns-clause-rooms : goal.returns-clause-rooms
-returns-clause-rooms c = λ a items sound part m name.
-    let kept = c.deref-2.ensures.value ∙ ap (λ (v : PartView). v.kept) (c.self.view_is ∙ part) in (
-      c.in_ok-in_rooms.ensures.undone m.touched items (length a.commits) m.moving_is.rooms_are m.moving_is.tail_is name
-          ∙ (λ t. row_undos (rows_of_room name (filter (moves_row m.touched items (length a.commits)) (kept t))))
-          ∙ undos_moved_in a m.touched items (length a.commits) name (kept_in (OfItems items) a)
-          ∙ ap (λ ws. map (undo_with (place_of a)) (of_room name ws)) (undone_picked a items (is_inside a items) m.touched sound (λ w e. e) m.are_touched),
-      c.in_ok-in_rooms.ensures.again name,
-    )
-
 pub returns-in_err-undo-clause-rows : goal.returns-in_err-undo-clause-rows
 returns-in_err-undo-clause-rows c = λ a items sound part m.
     let p = err_from_is_err_and c.from_residual.result c.from_residual.ensures.1 in
-    subst (λ r. IfOk r (λ undone. undone.0.items ≡ map (undo_with (place_of a)) (filter (may_move a items) (tentative a)))) (sym p.1) tt
-
-pub returns-in_err-undo-clause-rooms : goal.returns-in_err-undo-clause-rooms
-returns-in_err-undo-clause-rooms c = λ a items sound part m.
-    let p = err_from_is_err_and c.from_residual.result c.from_residual.ensures.1 in
-    subst (λ r. IfOk r (λ undone. AreUndone undone.1 a items)) (sym p.1) tt
-
-pub returns-in_err-in_rooms-clause-rows : goal.returns-in_err-in_rooms-clause-rows
-returns-in_err-in_rooms-clause-rows c = λ a items sound part m.
-    let p = err_from_is_err_and c.from_residual-in_err-in_rooms.result c.from_residual-in_err-in_rooms.ensures.1 in
-    subst (λ r. IfOk r (λ undone. undone.0.items ≡ map (undo_with (place_of a)) (filter (may_move a items) (tentative a)))) (sym p.1) tt
-
-pub returns-in_err-in_rooms-clause-rooms : goal.returns-in_err-in_rooms-clause-rooms
-returns-in_err-in_rooms-clause-rooms c = λ a items sound part m.
-    let p = err_from_is_err_and c.from_residual-in_err-in_rooms.result c.from_residual-in_err-in_rooms.ensures.1 in
-    subst (λ r. IfOk r (λ undone. AreUndone undone.1 a items)) (sym p.1) tt
+    subst (λ r. IfOk r (λ undone. undone.items ≡ map (undo_with (place_of a)) (filter (may_move a items) (tentative a)))) (sym p.1) tt

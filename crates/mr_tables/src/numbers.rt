@@ -3,7 +3,7 @@ ghost use Rattle.std.specs.List.{sum_by};
 ghost use Rattle.mr_model.specs.Replica.{greatest};
 ghost use Rattle.mr_agree.specs.Agreeing.{does_meta_agree, do_counts_agree};
 
-use mr_tables::{Tables, VectorRow};
+use crate::{Tables, VectorRow};
 
 /// Whether the rows of `meta` and `vector`, which each command has, agree with each other.
 pub fn do_numbers_agree(tables: &Tables) -> bool
