@@ -1,5 +1,5 @@
 # What stands around the program, tried on the built program: proxy, courier, stretches of serving, units, package and page. Read
-# by ./test (or by deploy/tests/alone), whose variables passed, failed, scratch and program are used here; the last is the path of
+# by tests/part (or by deploy/tests/alone), whose variables passed, failed, scratch and program are used here; the last is the path of
 # the program. What a missing package would be needed for is skipped by name.
 
 deploy=$(cd -- "$(dirname -- "${BASH_SOURCE[0]}")/.." && pwd)
@@ -506,29 +506,70 @@ deploy_rooms() {
     "$program" book "$1" room-c 20 "$day" 15:10 Tea > /dev/null
 }
 
-run_deploy() {
-    local deploy_scratch=$scratch/deploy nginx='' ports west east parser
-    local -a serving=()
-    local PATH=$PATH:/usr/sbin:/sbin
-    mkdir -p "$deploy_scratch"
+# ---- the parts, each of which tests/part runs in a shell of its own
+
+# deploy_begin: a folder and ports for the part, and no office
+deploy_begin() {
+    unset ROOMS_ETC ROOMS_STATE ROOMS_SHARE ROOMS_USER ROOMS_COURIER ROOMS_CALENDAR ROOMS_CALENDARS ROOMS_PROGRAM
+    deploy_scratch=$(mktemp -d "$scratch/deploy.XXXXXX")
+    nginx='' west='' east='' serving=()
+    PATH=$PATH:/usr/sbin:/sbin
     free_ports
+}
+
+run_deploy_texts() {
+    deploy_begin
     deploy_texts
-    if ! missing 'the front' perl python3; then deploy_front; fi
-    if ! missing 'the courier' curl; then deploy_courier; fi
-    if ! missing 'the courier with an older program' curl python3; then deploy_courier_older; fi
-    if ! missing 'offices' curl flock perl python3; then deploy_made_offices; fi
-    if ! missing 'proxy, stretches of serving and page' curl openssl nginx flock; then
-        deploy_offices
-        deploy_lost_office
-        start_nginx
-        deploy_proxy
-        deploy_courier_through_proxies
-        deploy_stretches
-        if ! missing 'the calendars' zdump && python_with icalendar; then deploy_calendars; fi
-        if ! missing 'the page in a browser' python3 chromium chromedriver; then deploy_page; fi
-        stop_nginx
-    fi
     if ! missing 'the units' systemd-analyze; then deploy_units; fi
     if ! missing 'the package' dpkg-deb dpkg-shlibdeps strip; then deploy_package; fi
-    unset ROOMS_ETC ROOMS_STATE ROOMS_SHARE ROOMS_USER ROOMS_COURIER ROOMS_CALENDAR ROOMS_CALENDARS ROOMS_PROGRAM
+}
+
+run_front() {
+    deploy_begin
+    if ! missing 'the front' perl python3; then deploy_front; fi
+}
+
+run_courier() {
+    deploy_begin
+    if ! missing 'the courier' curl; then deploy_courier; fi
+    if ! missing 'the courier with an older program' curl python3; then deploy_courier_older; fi
+}
+
+run_offices() {
+    deploy_begin
+    if ! missing 'offices' curl flock perl python3; then deploy_made_offices; fi
+}
+
+run_proxy() {
+    deploy_begin
+    if missing 'proxy and stretches of serving' curl openssl nginx flock; then return; fi
+    deploy_offices
+    deploy_lost_office
+    start_nginx
+    deploy_proxy
+    deploy_courier_through_proxies
+    deploy_stretches
+    if ! missing 'the calendars' zdump && python_with icalendar; then deploy_calendars; fi
+    stop_nginx
+}
+
+run_page() {
+    deploy_begin
+    if missing 'the page in a browser' curl openssl nginx flock python3 chromium chromedriver; then return; fi
+    deploy_offices
+    # everybody may read
+    sed -i 's/auth_basic "west: reading";/auth_basic off;/' "$ROOMS_ETC/west.nginx"
+    start_nginx
+    deploy_page
+    stop_nginx
+}
+
+# all of them, one after the other
+run_deploy() {
+    run_deploy_texts
+    run_front
+    run_courier
+    run_offices
+    run_proxy
+    run_page
 }
