@@ -8,6 +8,9 @@ generated 10
 worlds 200
 words 2
 rooms_script 10
+release 10
+released 5
+bare_system 90
 any_kit 20
 side_by_side 10
 lines 10
@@ -62,6 +65,8 @@ source_parts() {
     . tests/hostile/hostile.sh
     . tests/other_build.sh
     . tests/tools/rooms_script.sh
+    . tests/tools/release_script.sh
+    . tests/tools/bare_system.sh
     . tests/tools/any_kit.sh
     . tests/tools/side_by_side.sh
 }

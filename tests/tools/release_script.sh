@@ -71,6 +71,7 @@ run_release() {
     fi
     make_small "$small"
     cp tools/take_release "$small/tools"
+    # shellcheck disable=SC2016
     printf '#!/bin/sh\nif [ "$1" = - ]; then echo "bad command line"; exit 2; fi\necho "ran $*"\n' > "$scratch/released_program"
     pack "$scratch/released_program"
     small 'a release of these sources' 0
