@@ -88,6 +88,14 @@ class Tests:
         return subprocess.Popen([program or self.front, *words], cwd=self.folder, env={**self.env, **(env or {})}, stdin=subprocess.DEVNULL,
                                 stdout=subprocess.PIPE, stderr=subprocess.PIPE, text=True)
 
+    def write(self, name, content):
+        with open(self.path(name), 'wb') as it:
+            it.write(content)
+
+    def read(self, name):
+        with open(self.path(name), 'rb') as it:
+            return it.read()
+
     def make(self, name, server=1, room='oak'):
         for words in (['init', name, str(server), '1'], ['add-room', name, room]):
             subprocess.run([self.program, *words], cwd=self.folder, check=True, stdout=subprocess.DEVNULL)
@@ -234,6 +242,52 @@ def words(t):
     t.same('a terminal', status, 1)
     t.has('what a terminal shows', shown, 'refused 1 BadDay\n', "rooms: '09:00' is no day: a day is YYYY-MM-DD")
     t.same('a terminal without hints', t.at_terminal('sheet', 'd.db', 'oak', '09:00', env={'ROOMS_HINTS': '0'}), (1, 'refused 1 BadDay\n'))
+
+
+# what `export` may be told to write over: the bytes that are there, and what is said then, where it isn't done
+OUTPUTS = {
+    'text.out': (b'something else\n', 'text.out is there and is no batch'),
+    'position.out': (b'mp2 9 1\nK 0\nE\n', 'position.out is there and is no batch'),
+    'almost.out': (b'mr3 1 1\nE\n', 'almost.out is there and is no batch'),
+    'short.out': (b'mx', 'short.out is there and is no batch'),
+    'first.out': (b'mr1 9 1\nE\n', None),
+    'second.out': (b'mr2 9 1\nE\n', None),
+    'torn.out': (b'mr', None),
+    'empty.out': (b'', None),
+}
+
+
+def outputs(t):
+    """`export` writes over no database, and over no other file that is no batch; with hints and without, and at a terminal."""
+    t.make('o.db')
+    t.make('other.db', 2)
+    t.write('o.position', b'mp2 9 1\nK 0\nE\n')
+    os.symlink('other.db', t.path('link.out'))
+    t.write('logged.out', b'')
+    t.write('logged.out-wal', b'')
+    # of the position's version
+    batch = b'mr2 1 1\nE\n'
+    wrote = (0, f'wrote {len(batch)} bytes\n', '')
+    for ask in t.call, t.hinted:
+        refused = [(name, part) for name, (_, part) in OUTPUTS.items() if part]
+        refused += [('o.db', 'o.db is a database'), ('other.db', 'other.db is a database'), ('link.out', 'link.out is a database'),
+                    ('logged.out', 'logged.out-wal is there, so logged.out is a database')]
+        for name, (content, _) in OUTPUTS.items():
+            t.write(name, content)
+        for name, part in refused:
+            before = t.read(name)
+            status, out, said = ask('export', 'o.db', 'o.position', name, '10')
+            t.same(f'export to {name}', (status, out, said.count('\n'), said[:7], t.read(name) == before), (3, '', 1, 'rooms: ', True))
+            t.has(f'export to {name}', said, part, 'export would write over it')
+        for name in [*(name for name, (_, part) in OUTPUTS.items() if not part), 'absent.out']:
+            t.same(f'export to {name}', (ask('export', 'o.db', 'o.position', name, '10'), t.read(name)), (wrote, batch))
+        os.remove(t.path('absent.out'))
+        t.same('export to a device', ask('export', 'o.db', 'o.position', '/dev/null', '10'), wrote)
+        t.same('export to a folder', ask('export', 'o.db', 'o.position', '.', '10')[:2], (3, 'fault file\n'))
+        t.same('export with a word too few', ask('export', 'o.db', 'o.position', 'o.db')[:2], (2, 'bad command line\n'))
+    status, shown = t.at_terminal('export', 'o.db', 'o.position', 'other.db', '10')
+    t.same('export to a database, at a terminal', (status, shown), (3, 'rooms: other.db is a database: export would write over it; name another file for the batch\n'))
+    t.same('the databases are as they were', [t.call('position', name)[0] for name in ('o.db', 'other.db')], [0, 0])
 
 
 def rooms_taken(t):
@@ -423,7 +477,7 @@ def main(arguments):
         print(__doc__, file=sys.stderr)
         return 2
     t = Tests(*arguments)
-    for group in helps, same_lines, same_outputs, words, rooms_taken, turns, served, room_names, itself, signals, limits, rights:
+    for group in helps, same_lines, same_outputs, words, outputs, rooms_taken, turns, served, room_names, itself, signals, limits, rights:
         group(t)
     print(f'{t.passed} passed, {t.failed} failed')
     return 1 if t.failed else 0
