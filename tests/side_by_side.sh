@@ -55,6 +55,7 @@ stop_parts() {
 show_part() {
     local name=$1 status=${ended[$1]}
     cat -- "$scratch/$name.told"
+    sed -n 's/^skipped: //p' "$scratch/$name.told" >> "$scratch/skipped"
     case $status in
         0 | 1) count_of "the part $name" "$scratch/$name.told" "$name: " ;;
         124)
@@ -68,10 +69,16 @@ show_part() {
     esac
 }
 
+# show_skipped: how much was skipped, and what, in one line
+show_skipped() {
+    awk '{ names = names (count++ ? "; " : ": ") $0 } END { print count + 0 " skipped" names }' "$scratch/skipped"
+}
+
 # run_parts NAME..: what they print is shown whole, in this order
 run_parts() {
     local -a waiting shown=("$@")
     local at_once began=$SECONDS count=$# port=$FIRST_PORT
+    : > "$scratch/skipped"
     at_once=$(parts_at_once)
     mapfile -t waiting < <(longest_first "$@")
     trap 'stop_parts; exit 130' INT TERM
