@@ -12,6 +12,7 @@ release 10
 released 5
 bare_system 90
 any_kit 20
+lanes 15
 side_by_side 10
 lines 10
 files 10
@@ -67,7 +68,7 @@ source_parts() {
     . tests/tools/rooms_script.sh
     . tests/tools/release_script.sh
     . tests/tools/bare_system.sh
-    . tests/tools/any_kit.sh
+    . tests/tools/tools.sh
     . tests/tools/side_by_side.sh
 }
 
