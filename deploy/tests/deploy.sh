@@ -7,6 +7,7 @@ deploy=$(cd -- "$(dirname -- "${BASH_SOURCE[0]}")/.." && pwd)
 . "$deploy/tests/helpers.sh"
 . "$deploy/tests/offices.sh"
 . "$deploy/tests/lines.sh"
+. "$deploy/tests/rescue.sh"
 
 # ---- texts that go with the program
 
