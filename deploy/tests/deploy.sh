@@ -8,6 +8,7 @@ deploy=$(cd -- "$(dirname -- "${BASH_SOURCE[0]}")/.." && pwd)
 . "$deploy/tests/offices.sh"
 . "$deploy/tests/lines.sh"
 . "$deploy/tests/rescue.sh"
+. "$deploy/tests/trips.sh"
 
 # ---- texts that go with the program
 

@@ -1,5 +1,5 @@
-# rooms-office rescue and anew: what an old database has is asked for again, and offices begin anew with another primary. Read by
 # shellcheck disable=SC2153
+# rooms-office rescue and anew: what an old database has is asked for again, and offices begin anew with another primary. Read by
 # rooms-office, whose functions and variables are used here.
 
 # take_copy DATABASE FOLDER: with its log, so that the old one stays as it is
