@@ -39,7 +39,8 @@ other_build 20
 deploy_texts 60
 front 60
 courier 20
-offices 30
+poor_lines 60
+offices 60
 proxy 60
 page 120
 '

@@ -6,6 +6,9 @@ deploy=$(cd -- "$(dirname -- "${BASH_SOURCE[0]}")/.." && pwd)
 
 . "$deploy/tests/helpers.sh"
 . "$deploy/tests/offices.sh"
+. "$deploy/tests/lines.sh"
+. "$deploy/tests/rescue.sh"
+. "$deploy/tests/trips.sh"
 
 # ---- texts that go with the program
 
@@ -42,6 +45,7 @@ deploy_texts() {
         held 'shellcheck of the scripts' shellcheck -x "$deploy"/tests/under_systemd "$deploy"/systemd/rooms-office \
             "$deploy"/courier/rooms-courier "$deploy"/check/rooms-check "$deploy"/calendar/rooms-calendar "$deploy"/package/build "$deploy"/package/debian/{postinst,prerm,postrm} \
             rooms "$deploy/front/start"
+        held 'shellcheck of the parts of rooms-office' shellcheck -s bash -e SC2154 "$deploy"/systemd/office/*.sh
     fi
 }
 
@@ -301,9 +305,43 @@ deploy_courier_through_proxies() {
     printf 'cacert = "%s"\n' "$ROOMS_ETC/west.crt" > "$deploy_scratch/nobody.curl"
     carry -1 "$deploy_scratch/nobody.curl" -2 "$ROOMS_ETC/east.curl" "$a" "$b" > "$deploy_scratch/cut"
     is 'the courier without a password' "$? $(tail -n 1 "$deploy_scratch/cut")" \
-        "1 failed: $a/pull refused the password (401); what was carried before stays, and the courier may run again"
+        "1 failed: $a/position refused the password (401); what was carried before stays, and the courier may run again"
+    deploy_certificates
+    deploy_idle
     stop_serving
     is 'what it brought' "$("$program" sheet "$east" oak 1995-12-18 | tail -n 1)" '15:00-16:00 T 1-2 Budget Meeting'
+}
+
+# what is wrong with a certificate is said in words; another office's, one for another name, and one that ran out when it was made
+deploy_certificates() {
+    local folder=$deploy_scratch b=https://localhost:$((ports + 3)) expired=https://localhost:$((ports + 8))
+    local -x ROOMS_TRIES=0
+    printf 'user = "offices:offices"\ncacert = "%s"\n' "$ROOMS_ETC/west.crt" > "$folder/other.curl"
+    is 'a certificate of another' "$(courier_says -2 "$folder/other.curl" "http://127.0.0.1:$ports" "$b")" \
+        "3 failed: $b: the certificate isn't one that 'cacert' in the file of options names"
+    is 'a certificate for another name' "$(courier_says -2 "$ROOMS_ETC/east.curl" "http://127.0.0.1:$ports" "${b/localhost/127.0.0.1}")" \
+        "3 failed: ${b/localhost/127.0.0.1}: the certificate doesn't name 127.0.0.1"
+    openssl x509 -in "$ROOMS_ETC/west.crt" -signkey "$ROOMS_ETC/west.key" -days 0 -out "$folder/expired.crt" 2> /dev/null
+    openssl s_server -quiet -accept $((ports + 8)) -cert "$folder/expired.crt" -key "$ROOMS_ETC/west.key" -www > /dev/null 2>&1 &
+    serving+=($!)
+    reached 'nothing serves with a certificate that ran out' 20 taken $((ports + 8))
+    printf 'cacert = "%s"\n' "$folder/expired.crt" > "$folder/expired.curl"
+    is 'a certificate that ran out' "$(courier_says -2 "$folder/expired.curl" "http://127.0.0.1:$ports" "$expired")" \
+        "3 failed: $expired: the certificate ran out"
+    printf 'cacert = "%s"\n' "$folder/none" > "$folder/none.curl"
+    is 'a certificate that is not there' "$(courier_says -2 "$folder/none.curl" "http://127.0.0.1:$ports" "$b")" \
+        "3 failed: a certificate that the file of options $folder/none.curl names can't be read"
+}
+
+# where both have the same, one connection is all
+deploy_idle() {
+    local folder=$deploy_scratch far=https://localhost:$((ports + 9))
+    line plain $((ports + 9)) $((ports + 3))
+    : > "$folder/line.$((ports + 9))"
+    is 'an idle pair' "$(courier_says -2 "$ROOMS_ETC/east.curl" "http://127.0.0.1:$ports" "$far")" \
+        '0 done: 0 writes 0 commits there, 0 writes 0 commits back'
+    until_held 5 test -s "$folder/line.$((ports + 9))"
+    is 'one connection, of less than 3,000 bytes' "$(awk '$1 > 0 { n++; sum += $1 + $2 } END { print n, sum < 3000 }' "$folder/line.$((ports + 9))")" '1 1'
 }
 
 # ---- serving in stretches
@@ -535,6 +573,11 @@ run_courier() {
     if ! missing 'the courier with an older program' curl python3; then deploy_courier_older; fi
 }
 
+run_poor_lines() {
+    deploy_begin
+    if ! missing 'the courier on poor lines' curl flock python3; then deploy_lines; fi
+}
+
 run_offices() {
     deploy_begin
     if ! missing 'offices' curl flock perl python3; then deploy_made_offices; fi
@@ -569,6 +612,7 @@ run_deploy() {
     run_deploy_texts
     run_front
     run_courier
+    run_poor_lines
     run_offices
     run_proxy
     run_page
