@@ -1,8 +1,8 @@
 # How offices are made, get rooms and are put away: rooms-office and rooms-check on folders of their own. Read by deploy.sh, whose
 # functions and variables are used here.
 
-# everything that lies in the folders of offices
-all_files() { (cd "$folder" && find etc state -printf '%p %s\n' | sort); }
+# everything that lies in the folders of offices, but the lines of a stretch, which may be under way
+all_files() { (cd "$folder" && find etc state ! -name stretch -printf '%p %s\n' | sort); }
 
 # refuses NAME STATUS TEXT WORD..: rooms-office with these words says so, and leaves everything as it was
 refuses() {
