@@ -28,6 +28,7 @@ moved 90
 turned 90
 strangers 20
 hostile_hands 100
+sockets 30
 faults 150
 failed_disk 30
 questions 60
