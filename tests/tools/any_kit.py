@@ -157,6 +157,8 @@ class Tries:
         status, printed = self.run("prove", ["high"], folder)
         built = all(os.path.isdir(f"{self.repository}/crates/{it}/out/rlib/{it}.rlib") for it in ("low", "high"))
         self.told(f"prove, {what}", status == 0 and says(printed) and built, printed)
+        if not text:
+            self.another_clone(what)
         status, printed = self.run("edits", [], folder)
         self.told(f"edits, {what}", status == 0 and says(printed) and printed.endswith("\n2 passed, 0 failed\n"), printed)
         if not text:
@@ -169,6 +171,19 @@ class Tries:
         status, printed = self.run("gate", [], folder)
         of_ci = re.search(r"^(\d+) passed, 0 failed$", printed, re.M)
         self.told(f"gate, {what}", status == 0 and says(printed) and of_ci and printed.endswith("\nedits: 2 passed, 0 failed\n"), printed)
+
+    def another_clone(self, what):
+        """Whether a clone takes the libraries that this one proved, and proves the one whose text differs, and what stands on it."""
+        own, taken = self.repository, "was proved in another clone on this machine"
+        for change, count in (("", 2), ("\n", 0)):
+            self.repository = f"{self.folder}/clone{count}"
+            shutil.copytree(own, self.repository, ignore=shutil.ignore_patterns("out"))
+            write(f"{self.repository}/crates/low/src/lib.rt", FILES["crates/low/src/lib.rt"] + change)
+            status, printed = self.run("prove", ["high"], None)
+            built = all(os.path.isdir(f"{self.repository}/crates/{it}/out/rlib/{it}.rlib") for it in ("low", "high"))
+            self.told(f"prove in another clone, {what}, {count} of two taken", status == 0 and built and printed.count(taken) == count, printed)
+            shutil.rmtree(self.repository)
+        self.repository = own
 
     def kept_edits(self, what):
         """Whether edits that were found refused are taken so, and tried again after a change of the crate below both, and where all are to be."""
