@@ -13,6 +13,7 @@ released 5
 bare_system 90
 any_kit 20
 lanes 15
+kept_edits 5
 side_by_side 10
 lines 10
 files 10
@@ -28,6 +29,7 @@ moved 90
 turned 90
 strangers 20
 hostile_hands 100
+sockets 30
 faults 150
 failed_disk 30
 questions 60

@@ -9,6 +9,7 @@ deploy=$(cd -- "$(dirname -- "${BASH_SOURCE[0]}")/.." && pwd)
 . "$deploy/tests/lines.sh"
 . "$deploy/tests/rescue.sh"
 . "$deploy/tests/trips.sh"
+. "$deploy/tests/watched.sh"
 
 # ---- texts that go with the program
 
@@ -461,8 +462,8 @@ deploy_units() {
     mkdir -p "$folder"
     cp -r "$deploy"/systemd/rooms-*@* "$deploy"/systemd/rooms-.service.d "$folder"
     sed -i "s,/usr/bin/rooms-office,$deploy/systemd/rooms-office," "$folder"/*.service
-    for name in serve courier backup; do cp "$folder/rooms-$name@.service" "$folder/rooms-$name@west.service"; done
-    for name in courier backup; do cp "$folder/rooms-$name@.timer" "$folder/rooms-$name@west.timer"; done
+    for name in serve courier backup watch; do cp "$folder/rooms-$name@.service" "$folder/rooms-$name@west.service"; done
+    for name in courier backup watch; do cp "$folder/rooms-$name@.timer" "$folder/rooms-$name@west.timer"; done
     is 'the units are verified' "$(SYSTEMD_UNIT_PATH=$folder: systemd-analyze verify --man=no --recursive-errors=no \
         "$folder"/rooms-*@west.* 2>&1)" ''
     for name in serve courier backup; do

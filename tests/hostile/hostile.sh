@@ -44,6 +44,16 @@ run_hostile_hands() {
     tried 'callers who are silent or slow' tests/hostile/patience.py "$program" "$quick/patience"
 }
 
+# where it is listened at, and callers who take no reply
+run_sockets() {
+    if ! command -v python3 > /dev/null; then
+        echo 'skipped: where databases are listened at, callers who take no reply (no python3)'
+        return
+    fi
+    tried 'where databases are listened at' tests/hostile/listening.py "$program" "$quick/listening"
+    tried 'callers who take no reply, or take it slowly' tests/hostile/takers.py "$program" "$quick/takers"
+}
+
 run_faults() {
     if ! command -v python3 > /dev/null; then
         echo 'skipped: killed commands, limited files (no python3)'

@@ -1,13 +1,18 @@
-"""Whether checks run in the right order and with the right number of jobs (tools/lanes.py), on made-up checks, and what tools/gate_cost measures.
+"""Whether checks run in the right order and with the right number of jobs (tools/lanes.py), on made-up checks; what tools/gate_cost measures; and whether
+tools/gate has two compilers run at once.
 
     lanes.py FOLDER    needs no toolchain; the folder is made
 
 The last line is `N passed, M failed`.
 """
+import importlib.machinery
+import importlib.util
+import io
 import os
 import shutil
 import subprocess
 import sys
+import threading
 import types
 
 TOOLS = os.path.join(os.path.dirname(os.path.realpath(__file__)), "..", "..", "tools")
@@ -89,6 +94,39 @@ def costs(folder):
     same("seconds and GB of what was", 1 <= int(rows[0][2]) <= 5 and rows[0][3] == "0.2", True)
 
 
+class Program:
+    """A program that two pretended compilers make."""
+
+    def __init__(self):
+        self.name, self.out = "top", io.StringIO()
+
+
+def compilers():
+    """Two compilers that each wait for the other to begin, where there is memory for both; one after the other where there isn't."""
+    loader = importlib.machinery.SourceFileLoader("gate", f"{TOOLS}/gate")
+    gate = importlib.util.module_from_spec(importlib.util.spec_from_loader("gate", loader))
+    loader.exec_module(gate)
+    for gigabytes, failing, wanted in ((32, None, ["llvm 0", "rattle 0"]), (8, None, ["llvm 0", "rattle 0"]), (32, "llvm", ["llvm 1"]), (32, "rattle", ["llvm 0", "rattle 1"])):
+        gate.rt = lambda size=gigabytes: types.SimpleNamespace(free=lambda: size * GB)
+        both, order, program = threading.Barrier(2, timeout=10), [], Program()
+
+        def own(crate, backend, _words, _to):
+            if gigabytes == 32:
+                both.wait()
+            order.append(backend)
+            print(backend, "prints", file=crate.out)
+            return int(backend == failing)
+
+        compile_by = gate.side_by_side(own)
+        # as `rt` calls it
+        told = [f"llvm {(status := compile_by(program, 'llvm', [], 'out'))}"]
+        told += [f"rattle {compile_by(program, 'rattle', [], 'out')}"] if not status else []
+        name = f"two compilers, {gigabytes} GB, {failing} fails"
+        same(name, told, wanted)
+        same(f"{name}: both ran", sorted(order), ["llvm", "rattle"])
+        same(f"{name}: what they print", program.out.getvalue(), "".join(f"{it.split()[0]} prints\n" for it in wanted))
+
+
 def main(words):
     if len(words) != 1:
         print(__doc__, file=sys.stderr)
@@ -97,6 +135,7 @@ def main(words):
     lanes.MEASURED = f"{words[0]}/measured.tsv"
     orders()
     costs(f"{words[0]}/repository")
+    compilers()
     print(f"{counts[True]} passed, {counts[False]} failed")
     return 1 if counts[False] else 0
 

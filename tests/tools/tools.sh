@@ -19,3 +19,13 @@ run_lanes() {
     PYTHONDONTWRITEBYTECODE=1 python3 tests/tools/lanes.py "$scratch/lanes" 2>&1 | tee "$scratch/out"
     count_of 'tests/tools/lanes.py' "$scratch/out"
 }
+
+# which edits aren't tried again
+run_kept_edits() {
+    if ! command -v python3 > /dev/null; then
+        echo 'skipped: tests/tools/kept.py (no python3)'
+        return
+    fi
+    PYTHONDONTWRITEBYTECODE=1 python3 tests/tools/kept.py "$scratch/kept" 2>&1 | tee "$scratch/out"
+    count_of 'tests/tools/kept.py' "$scratch/out"
+}

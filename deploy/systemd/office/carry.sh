@@ -1,15 +1,10 @@
 # rooms-office carry: the courier to each peer of the settings. Read by rooms-office, whose functions and variables are used here.
 
-# An entry of PEERS is `[NAME=]URL [FILE]`: sets peer_name, url and options.
+# An entry of PEERS is `[NAME=]URL [FILE]`: sets url and options.
 if ! declare -F split_peer > /dev/null; then
     split_peer() {
         read -r url options <<< "$1"
-        peer_name=${url#*://}
-        peer_name=${peer_name%%/*}
-        if [[ $url =~ ^([^=/:]+)=(.*)$ ]]; then
-            peer_name=${BASH_REMATCH[1]}
-            url=${BASH_REMATCH[2]}
-        fi
+        if [[ $url =~ ^[^=/:]+=(.*)$ ]]; then url=${BASH_REMATCH[1]}; fi
     }
 fi
 
@@ -50,7 +45,7 @@ carry_to() {
 
 # Each peer has a process of its own, so that none waits for another. Until the last has been tried, the others are met again when it is time.
 carry() {
-    local number url options peer_name worst=0 untried=${#PEERS[@]}
+    local number url options worst=0 untried=${#PEERS[@]}
     local -a running=() ended=()
     mkdir -p -- "$state/known" || exit 1
     while [ "$untried" != 0 ] || [ ${#running[@]} != 0 ]; do

@@ -154,7 +154,7 @@ test_anew() {
 units_of() {
     local unit
     if [ ! -d /run/systemd/system ] || [ -z "$user" ]; then return; fi
-    for unit in serve.service courier.timer backup.timer check.timer; do
+    for unit in serve.service courier.timer backup.timer watch.timer; do
         unit=rooms-${unit%.*}@$name.${unit#*.}
         if systemctl is-enabled --quiet "$unit" 2> /dev/null; then echo "$unit"; fi
     done
