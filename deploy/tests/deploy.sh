@@ -217,7 +217,24 @@ deploy_proxy() {
     reached 'the page is not open to everybody' 10 curl -sf --cacert "$ROOMS_ETC/west.crt" "https://localhost:$((ports + 1))/"
     through 'a sheet where everybody may read' 200 '' "$day"
     through 'a request there' 401 '' /submit -d "$json"
+    guessed_passwords
     stop_serving
+}
+
+# one address guesses, and a desk there that has the right password isn't slowed
+guessed_passwords() {
+    local began number
+    printf 'url = "https://localhost:%s/rooms.json"\nuser = "desk:guess"\noutput = "/dev/null"\n' $((ports + 1)) > "$deploy_scratch/guess"
+    for number in $(seq 13); do
+        curl -s -m 60 --cacert "$ROOMS_ETC/west.crt" -K "$deploy_scratch/guess" -w '%{http_code} %{time_starttransfer}\n' > "$deploy_scratch/guess.$number" &
+    done
+    sleep 1
+    began=$SECONDS
+    for _ in 1 2 3 4 5; do through 'the right password beside guesses' 200 readers /rooms.json; done
+    held 'it is not slowed' test $((SECONDS - began)) -lt 5
+    until_held 30 eval '[ "$(cat "$deploy_scratch"/guess.* | grep -c "^401")" = 13 ]'
+    is 'guesses are refused as ever' "$(cat "$deploy_scratch"/guess.* | grep -c '^401 ')" 13
+    held 'the last comes late' test "$(cat "$deploy_scratch"/guess.* | cut -d ' ' -f 2 | sort -n | tail -n 1 | cut -d . -f 1)" -ge 4
 }
 
 # ---- the courier

@@ -102,31 +102,31 @@ class Tests:
 
 
 def helps(t):
-    status, out, err = t.call('--help')
-    t.same('help is no output', (status, out), (0, ''))
-    t.has('the table of commands', err, *(f'\n  {name} ' for name in COMMANDS.split()))
+    status, table, err = t.call('--help')
+    t.same('help that was asked for is output', (status, err), (0, ''))
+    t.has('the table of commands', table, *(f'\n  {name} ' for name in COMMANDS.split()))
     for words in ['-h'], ['help'], ['help', 'help']:
-        t.same(f'{words}', t.call(*words), (0, '', err))
+        t.same(f'{words}', t.call(*words), (0, table, ''))
     for name in COMMANDS.split():
-        status, out, said = t.call('help', name)
-        t.same(f'help {name}', (status, out), (0, ''))
+        status, said, err = t.call('help', name)
+        t.same(f'help {name}', (status, err), (0, ''))
         t.has(f'help {name} has its words and an example', said, f'rooms {name} ', '\nFor instance:  rooms ')
-        t.same(f'{name} --help', t.call(name, '--help'), (0, '', said))
+        t.same(f'{name} --help', t.call(name, '--help'), (0, said, ''))
     t.same('--help behind other words', t.call('sheet', 'west.db', '-h'), t.call('help', 'sheet'))
-    status, out, said = t.call('--version')
-    t.same('the version', (status, out, said.startswith('rooms 0.')), (0, '', True))
+    status, said, err = t.call('--version')
+    t.same('the version', (status, err, said.startswith('rooms 0.')), (0, '', True))
     status, out, said = t.call('help', 'bok')
     t.same('help of no command', (status, out), (2, ''))
     t.has('what was meant', said, "there is no command 'bok'; did you mean `book`?")
     status, shown = t.at_terminal()
-    t.same('no words at a terminal', (status, shown), (2, err))
+    t.same('no words at a terminal', (status, shown), (2, table))
     t.same('no words, and a script', t.call(input=b'replica 1\n', stdin=None), (0, 'ok\n', ''))
     # the examples can be copied
     t.make('west.db')
     with open(t.path('one.script'), 'w', encoding='ascii') as it:
         it.write('replica 1\n')
     for name in 'add-room', 'book', 'sheet', 'calendar', 'outcome', 'errors', 'cancel', 'commit', 'position':
-        line = t.call('help', name)[2].rpartition('For instance:  ')[2].strip()
+        line = t.call('help', name)[1].rpartition('For instance:  ')[2].strip()
         ran = subprocess.run(['bash', '-c', f'rooms() {{ "{t.program}" "$@"; }}; {line}'], cwd=t.folder, capture_output=True, text=True, check=False)
         t.same(f'the example {line}', (ran.returncode, ran.stderr), (1 if name == 'add-room' else 0, ''))
 

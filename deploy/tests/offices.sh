@@ -43,6 +43,10 @@ refused_offices() {
     serving+=($!)
     reached 'nothing listens' 10 taken $((port + 2))
     refuses 'a port that is taken' 1 "the port $((port + 2)) is taken by another program: take another" make east 2 1 $((port + 2)) $((port + 3)) oak
+    mkdir -p "$folder/nginx/sites-enabled"
+    printf 'server {\n\tlisten %s default_server;\n\tlisten [::]:%s default_server;\n}\n' $((port + 2)) $((port + 2)) > "$folder/nginx/sites-enabled/default"
+    ROOMS_NGINX=$folder/nginx refuses 'a port that nginx needs' 1 "the port $((port + 2)) is taken by another program, and nginx, which isn't running, is to have it by $folder/nginx/sites-enabled/default: end that program, or take the file out" \
+        make east 2 1 $((port + 4)) $((port + 3)) oak
     stop_serving
 }
 
