@@ -41,6 +41,7 @@ other_build 20
 deploy_texts 60
 front 60
 courier 20
+news 120
 poor_lines 60
 offices 60
 proxy 60
