@@ -104,8 +104,8 @@ how_others_stand() {
     held 'the check of a caller that came' eval '"$deploy/check/rooms-check" north | grep -qE "; west called [0-9] s ago"'
 }
 
-# asked PORT PATH WORD..: a reply of the office, whose pauses are waited for
-asked() {
+# reply_of PORT PATH WORD..: a reply of the office, whose pauses are waited for
+reply_of() {
     local port=$1 path=$2
     shift 2
     curl -s -f --retry 20 --retry-delay 0 --retry-connrefused --retry-all-errors "$@" "http://127.0.0.1:$port$path"
@@ -125,7 +125,7 @@ beside_serving() {
     ROOMS_CALENDAR=$folder/calendar "$office" serve west > "$folder/served" 2>&1 &
     serving+=($!)
     reached 'west is not served' 20 taken "$port"
-    held 'a request' asked "$port" /submit -d "$booking"
+    held 'a request' reply_of "$port" /submit -d "$booking"
     longest=$(python3 - "$port" <<'END'
 import socket, sys, time
 longest, last = 0, time.time()
@@ -143,10 +143,10 @@ print(max(longest, time.time() - last) < 4)
 END
 )
     is 'what takes six seconds stops nobody for four' "$longest $(sort -u "$folder/slow")" 'True made'
-    is 'nothing is committed while east was not met' "$(asked "$port" /position | sed -n 2p)" 'K 0'
+    is 'nothing is committed while east was not met' "$(reply_of "$port" /position | sed -n 2p)" 'K 0'
     held 'the journal says why' grep -qx 'nothing is committed until these are met: east' "$folder/served"
     echo "$(($(date +%s) - 3000)) 0 https://east:8442 done: 0" > "$ROOMS_STATE/west/carried"
-    held 'once it was met it is' until_held 20 eval 'asked "$port" /position | grep -qx "K 1"'
+    held 'once it was met it is' until_held 20 eval 'reply_of "$port" /position | grep -qx "K 1"'
     held 'and that is said' grep -qx 'all offices were met: commits go on' "$folder/served"
     mkdir -p "$ROOMS_CALENDARS/west/callers"
     touch -d '3 hours ago' "$ROOMS_CALENDARS/west/callers/south"
