@@ -9,8 +9,8 @@ from toolchain import TOOLS, rt
 SHARE_OF_NEED = 0.75
 # what is kept free beside a peak that was measured: sources grow, and processes are looked at now and then
 SHARE_OF_PEAK = 1.2
-# of the memory of a proof each further job takes so much: jobs share what was read
-OF_JOB = 0.15
+# of the memory of a proof each further job takes so much, at most 0.27 of those that were seen: jobs share what was read
+OF_JOB = 0.3
 # processor seconds of a line of source, where they weren't measured
 SECONDS_OF_LINE = 0.16
 MEASURED = f"{TOOLS}/measured.tsv"
