@@ -39,7 +39,7 @@ deploy_texts() {
         COMP_WORDS=(rooms ex) COMP_CWORD=1
         _rooms
         echo "${COMPREPLY[*]}")" 'export exchange'
-    held 'the page is below 1600 lines' test "$(cat "$deploy"/page/* | wc -l)" -lt 1600
+    held 'no file of the page is long' test "$(wc -l "$deploy"/page/* | sed '/ total$/d' | sort -n | awk 'END { print $1 }')" -lt 260
     is 'the page makes no HTML of texts' "$(cat "$deploy"/page/*.js | grep -cE 'innerHTML|outerHTML|insertAdjacentHTML|document\.write')" 0
     is 'the page has no code or style within its HTML, and nothing from elsewhere' \
         "$(cat "$deploy"/page/*.html | grep -cE '<style|style=|<script>| on[a-z]+=|https?://')" 0
@@ -569,7 +569,7 @@ page_test() {
 }
 
 deploy_page() {
-    local folder=$deploy_scratch/page
+    local folder=$deploy_scratch/page room
     mkdir -p "$folder"
     "$program" init "$folder/desk.db" 2 1 > /dev/null
     "$program" add-room "$folder/desk.db" oak > /dev/null
@@ -581,6 +581,36 @@ deploy_page() {
     page_test desk.py
     deploy_rooms "$folder/views.db"
     page_test views.py
+    "$program" init "$folder/mine.db" 1 1 > /dev/null
+    "$program" init "$folder/news.db" 2 1 > /dev/null
+    for room in oak elm; do
+        "$program" add-room "$folder/mine.db" "$room" > /dev/null
+        "$program" add-room "$folder/news.db" "$room" > /dev/null
+    done
+    "$program" book "$folder/news.db" oak 90 2095-12-19 09:00 Standing > /dev/null
+    "$program" book "$folder/news.db" oak 90 2095-12-19 09:00 '<img src=x onerror="document.title=1"> & Co' > /dev/null
+    "$program" book "$folder/news.db" oak 60 2095-12-19 14:00 Afternoon > /dev/null
+    page_test mine.py
+    proxy_news
+    page_test news.py
+}
+
+# the proxy's places of the news, where its configuration has none
+proxy_news() {
+    local folder=$ROOMS_CALENDARS/west
+    mkdir -p "$folder/told"
+    if grep -q '/told/' "$ROOMS_ETC/west.nginx"; then return; fi
+    sed -i "/location = \/rooms.json/i\\
+    location ~ ^/(news|status)\\.json\$ { alias $folder/\$1.json; }\\
+    location = /told/ { autoindex on; autoindex_format json; alias $folder/told/; }\\
+    location ~ \"^/told/(?<mark>[0-9-]+\\.[0-9]{10,11})\$\" {\\
+        limit_except PUT { deny all; }\\
+        auth_basic_user_file $ROOMS_ETC/west.bookers;\\
+        dav_methods PUT;\\
+        alias $folder/told/\$mark;\\
+    }" "$ROOMS_ETC/west.nginx"
+    stop_nginx
+    start_nginx
 }
 
 # deploy_rooms DB: a replica with twelve rooms and some bookings, two of them committed

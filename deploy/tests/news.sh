@@ -182,6 +182,6 @@ deploy_news() {
     news_to_hook
     how_others_stand
     beside_serving "$ports"
-    rm -r "$ROOMS_ETC"/west.* "$ROOMS_STATE/west"
+    rm -r "$ROOMS_ETC"/west.* "$ROOMS_ETC/north.conf" "$ROOMS_STATE"/{west,north}
     week_of_offices "$ports"
 }
