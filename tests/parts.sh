@@ -26,8 +26,8 @@ contradicting 10
 turned_cells 60
 kept 5
 moved 90
-turned 90
-strangers 20
+turned 150
+strangers 30
 hostile_hands 100
 sockets 30
 faults 150
@@ -41,6 +41,7 @@ other_build 20
 deploy_texts 60
 front 60
 courier 20
+news 120
 poor_lines 60
 offices 60
 proxy 60

@@ -9,8 +9,8 @@ from toolchain import TOOLS, rt
 SHARE_OF_NEED = 0.75
 # what is kept free beside a peak that was measured: sources grow, and processes are looked at now and then
 SHARE_OF_PEAK = 1.2
-# of the memory of a proof each further job takes so much: jobs share what was read
-OF_JOB = 0.15
+# of the memory of a proof each further job takes so much, as those that were seen did at most: jobs share what was read
+OF_JOB = 0.3
 # processor seconds of a line of source, where they weren't measured
 SECONDS_OF_LINE = 0.16
 MEASURED = f"{TOOLS}/measured.tsv"
@@ -68,8 +68,8 @@ class Lanes:
         return self.behind[key] * self.count > 0.9 * seconds
 
     def is_first(self, key):
-        """Whether no other proof that runs or is left has a longer chain: else that one needs the processors and the memory before long."""
-        return all(self.behind[key] >= self.behind[it] for it in [*self.left, *self.running] if is_proof(it))
+        """Whether no other proof that runs or is left has a much longer chain: else that one needs the processors and the memory before long."""
+        return all(self.behind[key] >= 0.9 * self.behind[it] for it in [*self.left, *self.running] if is_proof(it))
 
     def next(self):
         """Which task begins now, the most urgent first, and with how many jobs; None where none can."""

@@ -102,31 +102,31 @@ class Tests:
 
 
 def helps(t):
-    status, out, err = t.call('--help')
-    t.same('help is no output', (status, out), (0, ''))
-    t.has('the table of commands', err, *(f'\n  {name} ' for name in COMMANDS.split()))
+    status, table, err = t.call('--help')
+    t.same('help that was asked for is output', (status, err), (0, ''))
+    t.has('the table of commands', table, *(f'\n  {name} ' for name in COMMANDS.split()))
     for words in ['-h'], ['help'], ['help', 'help']:
-        t.same(f'{words}', t.call(*words), (0, '', err))
+        t.same(f'{words}', t.call(*words), (0, table, ''))
     for name in COMMANDS.split():
-        status, out, said = t.call('help', name)
-        t.same(f'help {name}', (status, out), (0, ''))
+        status, said, err = t.call('help', name)
+        t.same(f'help {name}', (status, err), (0, ''))
         t.has(f'help {name} has its words and an example', said, f'rooms {name} ', '\nFor instance:  rooms ')
-        t.same(f'{name} --help', t.call(name, '--help'), (0, '', said))
+        t.same(f'{name} --help', t.call(name, '--help'), (0, said, ''))
     t.same('--help behind other words', t.call('sheet', 'west.db', '-h'), t.call('help', 'sheet'))
-    status, out, said = t.call('--version')
-    t.same('the version', (status, out, said.startswith('rooms 0.')), (0, '', True))
+    status, said, err = t.call('--version')
+    t.same('the version', (status, err, said.startswith('rooms 0.')), (0, '', True))
     status, out, said = t.call('help', 'bok')
     t.same('help of no command', (status, out), (2, ''))
     t.has('what was meant', said, "there is no command 'bok'; did you mean `book`?")
     status, shown = t.at_terminal()
-    t.same('no words at a terminal', (status, shown), (2, err))
+    t.same('no words at a terminal', (status, shown), (2, table))
     t.same('no words, and a script', t.call(input=b'replica 1\n', stdin=None), (0, 'ok\n', ''))
     # the examples can be copied
     t.make('west.db')
     with open(t.path('one.script'), 'w', encoding='ascii') as it:
         it.write('replica 1\n')
     for name in 'add-room', 'book', 'sheet', 'calendar', 'outcome', 'errors', 'cancel', 'commit', 'position':
-        line = t.call('help', name)[2].rpartition('For instance:  ')[2].strip()
+        line = t.call('help', name)[1].rpartition('For instance:  ')[2].strip()
         ran = subprocess.run(['bash', '-c', f'rooms() {{ "{t.program}" "$@"; }}; {line}'], cwd=t.folder, capture_output=True, text=True, check=False)
         t.same(f'the example {line}', (ran.returncode, ran.stderr), (1 if name == 'add-room' else 0, ''))
 
@@ -298,13 +298,54 @@ def rooms_taken(t):
     t.same('no room: the reply is the program\'s', (status, out), (0, '1-2 T logged\n'))
     t.has('no room: what is in the way', err, 'NO ROOM for request 1-2', f'{DAY} 09:00-10:00 T 1-1 First is in the way', f'from {DAY} 10:00')
     t.has('no room: at a terminal', t.at_terminal('book', 'r.db', 'oak', '60', DAY, '09:30', 'Third')[1], '1-3 T logged\n', 'NO ROOM for request 1-3')
+    t.has('no room, yet', err, 'while it is T it may still get a room: if you ask for another one, call rooms cancel r.db oak 1-2\n')
     t.has('what became of it', t.hinted('outcome', 'r.db', 'oak', '1-2')[2], 'NO ROOM', '1-1 First is in the way')
-    t.same('a cancel', t.hinted('cancel', 'r.db', 'oak', '1-1'), (0, '1-4 T cancels 1-1\n', ''))
+    status, out, err = t.hinted('cancel', 'r.db', 'oak', '1-3')
+    t.same('a cancel of what has no room', (status, out, err), (0, '1-4 T void 1-3\n',
+           'rooms: request 1-3 has no room, and now it gets none any more: the cancel takes it back if it were to get one\n'))
+    t.same('a cancel', t.hinted('cancel', 'r.db', 'oak', '1-1'), (0, '1-5 T cancels 1-1\n', ''))
     status, out, err = t.hinted('cancel', 'r.db', 'oak', '1-1')
-    t.same('a second cancel', (status, out), (0, '1-5 T void 1-1\n'))
-    t.has('a second cancel', err, 'nothing was cancelled', 'cancel 1-4 has taken it back already')
+    t.same('a second cancel', (status, out), (0, '1-6 T void 1-1\n'))
+    t.has('a second cancel', err, 'nothing was cancelled', 'cancel 1-5 has taken it back already')
     status, out, err = t.hinted('book', 'r.db', 'oak', '60', '2020-01-01', '09:00', 'Old')
-    t.same('a day that is past', (status, out, err), (0, '1-6 T 2020-01-01 09:00-10:00\n', 'rooms: 2020-01-01 is past; the request stands all the same\n'))
+    t.same('a day that is past', (status, out, err), (0, '1-7 T 2020-01-01 09:00-10:00\n', 'rooms: 2020-01-01 is past; the request stands all the same\n'))
+
+
+def merges(t):
+    """What an exchange does to the requests of the office itself is told: worked by hand, with requests of office 3 that go before."""
+    t.make('m.db', 2)
+    for hour, title, *more in ('13:00', 'East supplier'), ('16:00', 'Stays'), ('17:00', 'Planning', f'{DAY}T18:00'), ('13:30', 'Waits'):
+        t.call('book', 'm.db', 'oak', '60', DAY, hour, title, *more)
+    t.call('cancel', 'm.db', 'oak', '2-2')
+    lines = ['mr2 1 1', f'W 1 1 1 oak 30 {DAY} 13:00 0 Earlier', f'W 1 2 2 oak 30 {DAY} 17:30 0 Late', 'X 1 3 99 oak 2 4', 'E']
+    # the request 1-1 takes 13:00 to 13:30: 2-1 loses its room, 2-4 gets one, which the cancel 1-3 takes back in the second batch
+    for name, part in ('batch1', [0, 1, 2, 4]), ('batch2', [0, 3, 4]):
+        with open(t.path(name), 'w', encoding='ascii') as it:
+            it.write(''.join(lines[n] + '\n' for n in part))
+    shutil.copy(t.path('m.db'), t.path('n.db'))
+    wanted = f"""rooms: of the requests that this office made (m.db): 1 lost the room, 1 moved, 1 found a room
+    2-1 East supplier lost its room oak on {DAY} at 13:00
+    2-4 Waits has the room oak by now, on {DAY} at 13:30
+    2-3 Planning in oak, which was on {DAY} at 17:00, moved to 18:00
+"""
+    t.same('an import', t.hinted('import', 'm.db', 'batch1'), (0, 'took 2 writes 0 commits\n', wanted))
+    t.same('an import that changes nothing', t.hinted('import', 'm.db', 'batch1'), (0, 'took 0 writes 0 commits\n', ''))
+    t.same('an import with a cancel', t.hinted('import', 'm.db', 'batch2'), (0, 'took 1 writes 0 commits\n',
+           f'rooms: of the requests that this office made (m.db): 1 cancelled\n    2-4 Waits in oak, which was on {DAY} at 13:30, was cancelled by 1-3\n'))
+    t.same('an import without hints', t.call('import', 'n.db', 'batch1'), (0, 'took 2 writes 0 commits\n', ''))
+    t.make('p.db', 1)
+    for hour in range(24):
+        t.call('book', 'p.db', 'oak', '60', '2030-03-05', f'{hour:02}:00', 'Of one')
+    t.make('q.db', 3)
+    for hour in range(24):
+        t.call('book', 'q.db', 'oak', '60', '2030-03-05', f'{hour:02}:00', 'Of three')
+    status, out, err = t.hinted('bridge', 'q.db', 'p.db')
+    t.same('a bridge', (status, out), (0, 'pulled 24 writes 0 commits\npushed 24 writes 0 commits\n'))
+    t.same('a bridge: the lines', (err.splitlines()[0], err.splitlines()[-1], err.count('\n')),
+           ('rooms: of the requests that this office made (q.db): 24 lost the room', '    and 4 more', 22))
+    t.make('four.db', 4)
+    t.call('book', 'four.db', 'oak', '30', '2030-03-05', '00:00', 'Of four')
+    t.has('a bridge at a terminal', t.at_terminal('bridge', 'q.db', 'four.db')[1], 'pushed 48 ', '(four.db): 1 lost the room\n    4-1 Of four lost its room oak on 2030-03-05 at 00:00\n')
 
 
 def turns(t):
@@ -477,7 +518,7 @@ def main(arguments):
         print(__doc__, file=sys.stderr)
         return 2
     t = Tests(*arguments)
-    for group in helps, same_lines, same_outputs, words, outputs, rooms_taken, turns, served, room_names, itself, signals, limits, rights:
+    for group in helps, same_lines, same_outputs, words, outputs, rooms_taken, merges, turns, served, room_names, itself, signals, limits, rights:
         group(t)
     print(f'{t.passed} passed, {t.failed} failed')
     return 1 if t.failed else 0

@@ -43,6 +43,10 @@ refused_offices() {
     serving+=($!)
     reached 'nothing listens' 10 taken $((port + 2))
     refuses 'a port that is taken' 1 "the port $((port + 2)) is taken by another program: take another" make east 2 1 $((port + 2)) $((port + 3)) oak
+    mkdir -p "$folder/nginx/sites-enabled"
+    printf 'server {\n\tlisten %s default_server;\n\tlisten [::]:%s default_server;\n}\n' $((port + 2)) $((port + 2)) > "$folder/nginx/sites-enabled/default"
+    ROOMS_NGINX=$folder/nginx refuses 'a port that nginx needs' 1 "the port $((port + 2)) is taken by another program, and nginx, which isn't running, is to have it by $folder/nginx/sites-enabled/default: end that program, or take the file out" \
+        make east 2 1 $((port + 4)) $((port + 3)) oak
     stop_serving
 }
 
@@ -102,14 +106,16 @@ ash              Ash, 3rd floor'
     is 'the rooms while it is served' "$("$office" rooms west | grep -c .)" 6
     "$ROOMS_PROGRAM" init "$folder/north.db" 9 1 > /dev/null
     sed "s/^SERVER=.*/SERVER=9/" "$ROOMS_ETC/west.conf" > "$ROOMS_ETC/north.conf"
+    cp "$json" "$ROOMS_ETC/north.rooms.json"
     mkdir "$ROOMS_STATE/north"
     is 'an office without its database' "$(ROOMS_BINARY=$ROOMS_PROGRAM ROOMS_PROGRAM=$deploy/front/rooms "$office" serve north 2>&1 | tail -n 1)" \
         "rooms-office: nothing is served: refused 26 NotAReplica (status 1): there is no $ROOMS_STATE/north/rooms.db; \`rooms init $ROOMS_STATE/north/rooms.db SERVER PRIMARY\` makes a database"
     mv "$folder/north.db" "$ROOMS_STATE/north/rooms.db"
     is 'an office whose port is taken' "$("$office" serve north 2>&1 | tail -n 1 | sed 's/[0-9]\{5\}/PORT/')" \
         'rooms-office: nothing is served: fault network (status 3): the port PORT is taken by another program'
-    rm -r "$ROOMS_ETC/north.conf" "$ROOMS_STATE/north"
-    refuses 'an office that is served is not removed' 1 'west is served: end that first' remove west
+    rm -r "$ROOMS_ETC"/north.* "$ROOMS_STATE/north" "$ROOMS_CALENDARS/north"
+    is 'an office that is served is not removed' "$("$office" remove west 2>&1)" 'rooms-office: west is served: end that first'
+    held 'nothing of it is gone' test -e "$ROOMS_ETC/west.conf" -a -e "$ROOMS_STATE/west/rooms.db"
     stop_serving
 }
 
@@ -136,7 +142,7 @@ deploy_made_offices() {
     export ROOMS_ETC ROOMS_STATE ROOMS_SHARE ROOMS_USER ROOMS_PROGRAM
     local -x LC_ALL=C ROOMS_CALENDAR=$deploy/calendar/rooms-calendar ROOMS_CALENDARS=$folder/calendars
     mkdir -p "$ROOMS_SHARE" "$ROOMS_ETC" "$ROOMS_STATE" "$ROOMS_CALENDARS/east"
-    cp -r "$deploy/page" "$deploy/front" "$deploy/proxy/office.conf.in" "$deploy/systemd/office.settings.in" "$deploy/systemd/page_rooms.pl" \
+    cp -r "$deploy/page" "$deploy/front" "$deploy/news" "$deploy/proxy/office.conf.in" "$deploy/systemd/office.settings.in" "$deploy/systemd/page_rooms.pl" \
         "$ROOMS_SHARE"
     for script in "$office" "$deploy/courier/rooms-courier" "$deploy/check/rooms-check" "$deploy/calendar/rooms-calendar" "$deploy/package/build" "$deploy/tests/alone" \
         "$deploy/tests/under_systemd"; do

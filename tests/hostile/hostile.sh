@@ -17,7 +17,7 @@ tried() {
     fi
 }
 
-# turned batches and positions for 90 seconds; the seed is printed with a failure
+# turned batches and positions for 90 seconds of processor time each of up to four processes; the seed is printed with a failure
 run_turned() {
     if ! command -v python3 > /dev/null; then
         echo 'skipped: turned batches (no python3)'
@@ -26,7 +26,7 @@ run_turned() {
     tried 'turned batches and positions' tests/hostile/hostile.py "$program" "$quick/turned" 90
 }
 
-# requests of strangers for 20 seconds
+# requests of strangers for 20 seconds of processor time each
 run_strangers() {
     if ! command -v python3 > /dev/null; then
         echo 'skipped: strange requests (no python3)'

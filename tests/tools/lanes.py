@@ -56,6 +56,7 @@ def begun(those):
 def orders():
     # two jobs for the head of the longest chain, though it has as many lines as the others, and one for what is off it
     same("the longest chain has the jobs", begun(made(ROWS, 4, 32, 4)), {"long": 2, "short": 1, "alone": 1})
+    same("two chains that are about as long", begun(made(ROWS.replace("\t10\t", "\t95\t"), 4, 32, 4)), {"long": 2, "short": 2, "alone": 1})
     same("one job each", begun(made(ROWS, 4, 32, 1)), {"long": 1, "short": 1, "alone": 1})
     # 0.85 of 11 GB hold two checks of 1.2 times 3 GB, and no third of 0.75 times 10
     same("memory as it was measured", begun(made(ROWS, 4, 11, 1)), {"long": 1, "short": 1})
