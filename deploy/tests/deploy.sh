@@ -91,7 +91,7 @@ deploy_offices() {
     is 'an office is not made twice' "$("$deploy/systemd/rooms-office" make west 1 1 1 1 oak 2>&1)" \
         "rooms-office: there is $ROOMS_ETC/west.conf already"
     for name in west east; do
-        openssl req -x509 -newkey rsa:2048 -nodes -days 2 -subj /CN=localhost -addext subjectAltName=DNS:localhost \
+        openssl req -x509 -newkey rsa:2048 -nodes -days 60 -subj /CN=localhost -addext subjectAltName=DNS:localhost \
             -keyout "$ROOMS_ETC/$name.key" -out "$ROOMS_ETC/$name.crt" 2> /dev/null
         for list in readers bookers offices; do
             held "a user of $name.$list" "$deploy/systemd/rooms-office" user "$list" "$name.$list" <<< "$list"
@@ -239,6 +239,7 @@ deploy_proxy() {
     is 'who called' "$(ls "$ROOMS_CALENDARS/west/callers")" offices
     held 'and in the log of all' grep -q ' offices .*"GET /position HTTP/1.1" 200 ' "$deploy_scratch/access.log"
     is 'no password goes on, and no request twice' "$(grep -c '^200$' "$west.served")" 5
+    guessed_passwords
     sed -i 's/auth_basic "west: reading";/auth_basic off;/' "$ROOMS_ETC/west.nginx"
     # the worker of the old configuration may take a connection until it ends
     read -r -a workers < <(cat -- "/proc/$nginx/task/$nginx/children" 2> /dev/null)
@@ -247,7 +248,6 @@ deploy_proxy() {
     reached 'the page is not open to everybody' 10 curl -sf --cacert "$ROOMS_ETC/west.crt" "https://localhost:$((ports + 1))/"
     through 'a sheet where everybody may read' 200 '' "$day"
     through 'a request there' 401 '' /submit -d "$json"
-    guessed_passwords
     stop_serving
 }
 
@@ -256,13 +256,13 @@ guessed_passwords() {
     local began number
     printf 'url = "https://localhost:%s/rooms.json"\nuser = "desk:guess"\noutput = "/dev/null"\n' $((ports + 1)) > "$deploy_scratch/guess"
     for number in $(seq 13); do
-        curl -s -m 60 --cacert "$ROOMS_ETC/west.crt" -K "$deploy_scratch/guess" -w '%{http_code} %{time_starttransfer}\n' > "$deploy_scratch/guess.$number" &
+        curl -s -m 120 --cacert "$ROOMS_ETC/west.crt" -K "$deploy_scratch/guess" -w '%{http_code} %{time_starttransfer}\n' > "$deploy_scratch/guess.$number" &
     done
     sleep 1
     began=$SECONDS
     for _ in 1 2 3 4 5; do through 'the right password beside guesses' 200 readers /rooms.json; done
     held 'it is not slowed' test $((SECONDS - began)) -lt 5
-    until_held 30 eval '[ "$(cat "$deploy_scratch"/guess.* | grep -c "^401")" = 13 ]'
+    until_held 90 eval '[ "$(cat "$deploy_scratch"/guess.* | grep -c "^401")" = 13 ]'
     is 'guesses are refused as ever' "$(cat "$deploy_scratch"/guess.* | grep -c '^401 ')" 13
     held 'the last comes late' test "$(cat "$deploy_scratch"/guess.* | cut -d ' ' -f 2 | sort -n | tail -n 1 | cut -d . -f 1)" -ge 4
 }
