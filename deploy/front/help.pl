@@ -59,9 +59,9 @@ our @commands = (
 our %command = map { $_->[0] => $_ } @commands;
 
 sub print_table {
-    print STDERR "rooms COMMAND WORD..     books meeting rooms in a database file. T is tentative, C is committed (final).\n\n";
-    printf STDERR "  %-9s%-50s %s\n", @$_[0 .. 2] for @commands;
-    print STDERR "\nrooms help COMMAND has the forms of its words and an example, `man rooms` all of it (in the repository:\n"
+    print "rooms COMMAND WORD..     books meeting rooms in a database file. T is tentative, C is committed (final).\n\n";
+    printf "  %-9s%-50s %s\n", @$_[0 .. 2] for @commands;
+    print "\nrooms help COMMAND has the forms of its words and an example, `man rooms` all of it (in the repository:\n"
         . "man -l deploy/package/rooms.1). Without words, a script is run that comes on standard input. ROOMS_WAIT is for how many\n"
         . "seconds a command waits for others on the same database (10), ROOMS_HINTS=0 prints no hints after failures.\n";
 }
@@ -76,17 +76,18 @@ sub print_command {
     my ($name) = @_;
     my (undef, $words, $what) = @{ $command{$name} };
     my %seen;
-    print STDERR "rooms $name $words\n    $what\n\n";
+    print "rooms $name $words\n    $what\n\n";
     for my $word ($words =~ /[A-Z]+/g) {
-        printf STDERR "  %-12s%s\n", $word, $forms{$word} unless $seen{$word}++;
+        printf "  %-12s%s\n", $word, $forms{$word} unless $seen{$word}++;
     }
-    print STDERR "\nFor instance:  ", example_of($name), "\n";
+    print "\nFor instance:  ", example_of($name), "\n";
 }
 
 sub version {
-    for my $file ("$folder/version", "$folder/../package/debian/changelog") {
+    # of the package a file has it alone, else the first heading of CHANGELOG.md that is one
+    for my $file ("$folder/version", "$folder/../../CHANGELOG.md") {
         open my $lines, '<', $file or next;
-        return $1 if <$lines> =~ /^(?:rooms \()?([0-9][0-9.]*)/;
+        while (<$lines>) { return $1 if /^(?:## )?([0-9][0-9.]*)/ }
     }
     return 'of no known version';
 }
@@ -119,24 +120,24 @@ sub nearest {
 }
 
 # Prints what the words ask for; gives the status.
+# What is asked for goes to standard output; what nobody asked for, or no such command, to standard error.
 sub help {
     my @words = @_;
-    if (grep { /^(version|--version|-V)$/ } $words[0] // '') {
-        print STDERR 'rooms ', version(), "\n";
-        return 0;
-    }
     my ($topic) = grep { $command{$_} } @words;
-    if (defined $topic) {
-        print_command($topic);
-        return 0;
+    my ($unknown) = grep { !/^(-h|--help|help|version|--version|-V)$/ } @words;
+    my $is_found = @words && (defined $topic || !defined $unknown);
+    my $before = select($is_found ? \*STDOUT : \*STDERR);
+    if ((($words[0] // '') =~ /^(version|--version|-V)$/)) { print 'rooms ', version(), "\n" }
+    elsif (defined $topic)                                { print_command($topic) }
+    else {
+        if (defined $unknown) {
+            my $meant = nearest($unknown, map { $_->[0] } @commands);
+            print "rooms: there is no command '$unknown'", defined $meant ? "; did you mean `$meant`?" : '', "\n\n";
+        }
+        print_table();
     }
-    my ($unknown) = grep { !/^(-h|--help|help)$/ } @words;
-    if (defined $unknown) {
-        my $meant = nearest($unknown, map { $_->[0] } @commands);
-        print STDERR "rooms: there is no command '$unknown'", defined $meant ? "; did you mean `$meant`?" : '', "\n\n";
-    }
-    print_table();
-    return @words && !defined $unknown ? 0 : 2;
+    select($before);
+    return $is_found ? 0 : 2;
 }
 
 1;

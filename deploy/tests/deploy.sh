@@ -1,11 +1,15 @@
 # What stands around the program, tried on the built program: proxy, courier, stretches of serving, units, package and page. Read
-# by ./test (or by deploy/tests/alone), whose variables passed, failed, scratch and program are used here; the last is the path of
+# by tests/part (or by deploy/tests/alone), whose variables passed, failed, scratch and program are used here; the last is the path of
 # the program. What a missing package would be needed for is skipped by name.
 
 deploy=$(cd -- "$(dirname -- "${BASH_SOURCE[0]}")/.." && pwd)
 
 . "$deploy/tests/helpers.sh"
 . "$deploy/tests/offices.sh"
+. "$deploy/tests/lines.sh"
+. "$deploy/tests/rescue.sh"
+. "$deploy/tests/trips.sh"
+. "$deploy/tests/watched.sh"
 . "$deploy/tests/news.sh"
 
 # ---- texts that go with the program
@@ -35,7 +39,7 @@ deploy_texts() {
         COMP_WORDS=(rooms ex) COMP_CWORD=1
         _rooms
         echo "${COMPREPLY[*]}")" 'export exchange'
-    held 'the page is below 1600 lines' test "$(cat "$deploy"/page/* | wc -l)" -lt 1600
+    held 'no file of the page is long' test "$(wc -l "$deploy"/page/* | sed '/ total$/d' | sort -n | awk 'END { print $1 }')" -lt 260
     is 'the page makes no HTML of texts' "$(cat "$deploy"/page/*.js | grep -cE 'innerHTML|outerHTML|insertAdjacentHTML|document\.write')" 0
     is 'the page has no code or style within its HTML, and nothing from elsewhere' \
         "$(cat "$deploy"/page/*.html | grep -cE '<style|style=|<script>| on[a-z]+=|https?://')" 0
@@ -43,6 +47,7 @@ deploy_texts() {
         held 'shellcheck of the scripts' shellcheck -x "$deploy"/tests/under_systemd "$deploy"/systemd/rooms-office \
             "$deploy"/courier/rooms-courier "$deploy"/check/rooms-check "$deploy"/calendar/rooms-calendar "$deploy"/news/peers.sh "$deploy"/package/build "$deploy"/package/debian/{postinst,prerm,postrm} \
             rooms "$deploy/front/start"
+        held 'shellcheck of the parts of rooms-office' shellcheck -s bash -e SC2154 "$deploy"/systemd/office/*.sh
     fi
 }
 
@@ -86,7 +91,7 @@ deploy_offices() {
     is 'an office is not made twice' "$("$deploy/systemd/rooms-office" make west 1 1 1 1 oak 2>&1)" \
         "rooms-office: there is $ROOMS_ETC/west.conf already"
     for name in west east; do
-        openssl req -x509 -newkey rsa:2048 -nodes -days 2 -subj /CN=localhost -addext subjectAltName=DNS:localhost \
+        openssl req -x509 -newkey rsa:2048 -nodes -days 60 -subj /CN=localhost -addext subjectAltName=DNS:localhost \
             -keyout "$ROOMS_ETC/$name.key" -out "$ROOMS_ETC/$name.crt" 2> /dev/null
         for list in readers bookers offices; do
             held "a user of $name.$list" "$deploy/systemd/rooms-office" user "$list" "$name.$list" <<< "$list"
@@ -234,6 +239,7 @@ deploy_proxy() {
     is 'who called' "$(ls "$ROOMS_CALENDARS/west/callers")" offices
     held 'and in the log of all' grep -q ' offices .*"GET /position HTTP/1.1" 200 ' "$deploy_scratch/access.log"
     is 'no password goes on, and no request twice' "$(grep -c '^200$' "$west.served")" 5
+    guessed_passwords
     sed -i 's/auth_basic "west: reading";/auth_basic off;/' "$ROOMS_ETC/west.nginx"
     # the worker of the old configuration may take a connection until it ends
     read -r -a workers < <(cat -- "/proc/$nginx/task/$nginx/children" 2> /dev/null)
@@ -243,6 +249,22 @@ deploy_proxy() {
     through 'a sheet where everybody may read' 200 '' "$day"
     through 'a request there' 401 '' /submit -d "$json"
     stop_serving
+}
+
+# one address guesses, and a desk there that has the right password isn't slowed
+guessed_passwords() {
+    local began number
+    printf 'url = "https://localhost:%s/rooms.json"\nuser = "desk:guess"\noutput = "/dev/null"\n' $((ports + 1)) > "$deploy_scratch/guess"
+    for number in $(seq 13); do
+        curl -s -m 120 --cacert "$ROOMS_ETC/west.crt" -K "$deploy_scratch/guess" -w '%{http_code} %{time_starttransfer}\n' > "$deploy_scratch/guess.$number" &
+    done
+    sleep 1
+    began=$SECONDS
+    for _ in 1 2 3 4 5; do through 'the right password beside guesses' 200 readers /rooms.json; done
+    held 'it is not slowed' test $((SECONDS - began)) -lt 5
+    until_held 90 eval '[ "$(cat "$deploy_scratch"/guess.* | grep -c "^401")" = 13 ]'
+    is 'guesses are refused as ever' "$(cat "$deploy_scratch"/guess.* | grep -c '^401 ')" 13
+    held 'the last comes late' test "$(cat "$deploy_scratch"/guess.* | cut -d ' ' -f 2 | sort -n | tail -n 1 | cut -d . -f 1)" -ge 4
 }
 
 # ---- the courier
@@ -331,9 +353,43 @@ deploy_courier_through_proxies() {
     printf 'cacert = "%s"\n' "$ROOMS_ETC/west.crt" > "$deploy_scratch/nobody.curl"
     carry -1 "$deploy_scratch/nobody.curl" -2 "$ROOMS_ETC/east.curl" "$a" "$b" > "$deploy_scratch/cut"
     is 'the courier without a password' "$? $(tail -n 1 "$deploy_scratch/cut")" \
-        "1 failed: $a/pull refused the password (401); what was carried before stays, and the courier may run again"
+        "1 failed: $a/position refused the password (401); what was carried before stays, and the courier may run again"
+    deploy_certificates
+    deploy_idle
     stop_serving
     is 'what it brought' "$("$program" sheet "$east" oak 1995-12-18 | tail -n 1)" '15:00-16:00 T 1-2 Budget Meeting'
+}
+
+# what is wrong with a certificate is said in words; another office's, one for another name, and one that ran out when it was made
+deploy_certificates() {
+    local folder=$deploy_scratch b=https://localhost:$((ports + 3)) expired=https://localhost:$((ports + 8))
+    local -x ROOMS_TRIES=0
+    printf 'user = "offices:offices"\ncacert = "%s"\n' "$ROOMS_ETC/west.crt" > "$folder/other.curl"
+    is 'a certificate of another' "$(courier_says -2 "$folder/other.curl" "http://127.0.0.1:$ports" "$b")" \
+        "3 failed: $b: the certificate isn't one that 'cacert' in the file of options names"
+    is 'a certificate for another name' "$(courier_says -2 "$ROOMS_ETC/east.curl" "http://127.0.0.1:$ports" "${b/localhost/127.0.0.1}")" \
+        "3 failed: ${b/localhost/127.0.0.1}: the certificate doesn't name 127.0.0.1"
+    openssl x509 -in "$ROOMS_ETC/west.crt" -signkey "$ROOMS_ETC/west.key" -days 0 -out "$folder/expired.crt" 2> /dev/null
+    openssl s_server -quiet -accept $((ports + 8)) -cert "$folder/expired.crt" -key "$ROOMS_ETC/west.key" -www > /dev/null 2>&1 &
+    serving+=($!)
+    reached 'nothing serves with a certificate that ran out' 20 taken $((ports + 8))
+    printf 'cacert = "%s"\n' "$folder/expired.crt" > "$folder/expired.curl"
+    is 'a certificate that ran out' "$(courier_says -2 "$folder/expired.curl" "http://127.0.0.1:$ports" "$expired")" \
+        "3 failed: $expired: the certificate ran out"
+    printf 'cacert = "%s"\n' "$folder/none" > "$folder/none.curl"
+    is 'a certificate that is not there' "$(courier_says -2 "$folder/none.curl" "http://127.0.0.1:$ports" "$b")" \
+        "3 failed: a certificate that the file of options $folder/none.curl names can't be read"
+}
+
+# where both have the same, one connection is all
+deploy_idle() {
+    local folder=$deploy_scratch far=https://localhost:$((ports + 9))
+    line plain $((ports + 9)) $((ports + 3))
+    : > "$folder/line.$((ports + 9))"
+    is 'an idle pair' "$(courier_says -2 "$ROOMS_ETC/east.curl" "http://127.0.0.1:$ports" "$far")" \
+        '0 done: 0 writes 0 commits there, 0 writes 0 commits back'
+    until_held 5 test -s "$folder/line.$((ports + 9))"
+    is 'one connection, of less than 3,000 bytes' "$(awk '$1 > 0 { n++; sum += $1 + $2 } END { print n, sum < 3000 }' "$folder/line.$((ports + 9))")" '1 1'
 }
 
 # ---- serving in stretches
@@ -457,8 +513,8 @@ deploy_units() {
     mkdir -p "$folder"
     cp -r "$deploy"/systemd/rooms-*@* "$deploy"/systemd/rooms-.service.d "$folder"
     sed -i "s,/usr/bin/rooms-office,$deploy/systemd/rooms-office," "$folder"/*.service
-    for name in serve courier backup; do cp "$folder/rooms-$name@.service" "$folder/rooms-$name@west.service"; done
-    for name in courier backup; do cp "$folder/rooms-$name@.timer" "$folder/rooms-$name@west.timer"; done
+    for name in serve courier backup watch; do cp "$folder/rooms-$name@.service" "$folder/rooms-$name@west.service"; done
+    for name in courier backup watch; do cp "$folder/rooms-$name@.timer" "$folder/rooms-$name@west.timer"; done
     is 'the units are verified' "$(SYSTEMD_UNIT_PATH=$folder: systemd-analyze verify --man=no --recursive-errors=no \
         "$folder"/rooms-*@west.* 2>&1)" ''
     for name in serve courier backup; do
@@ -513,7 +569,7 @@ page_test() {
 }
 
 deploy_page() {
-    local folder=$deploy_scratch/page
+    local folder=$deploy_scratch/page room
     mkdir -p "$folder"
     "$program" init "$folder/desk.db" 2 1 > /dev/null
     "$program" add-room "$folder/desk.db" oak > /dev/null
@@ -525,6 +581,36 @@ deploy_page() {
     page_test desk.py
     deploy_rooms "$folder/views.db"
     page_test views.py
+    "$program" init "$folder/mine.db" 1 1 > /dev/null
+    "$program" init "$folder/news.db" 2 1 > /dev/null
+    for room in oak elm; do
+        "$program" add-room "$folder/mine.db" "$room" > /dev/null
+        "$program" add-room "$folder/news.db" "$room" > /dev/null
+    done
+    "$program" book "$folder/news.db" oak 90 2095-12-19 09:00 Standing > /dev/null
+    "$program" book "$folder/news.db" oak 90 2095-12-19 09:00 '<img src=x onerror="document.title=1"> & Co' > /dev/null
+    "$program" book "$folder/news.db" oak 60 2095-12-19 14:00 Afternoon > /dev/null
+    page_test mine.py
+    proxy_news
+    page_test news.py
+}
+
+# the proxy's places of the news, where its configuration has none
+proxy_news() {
+    local folder=$ROOMS_CALENDARS/west
+    mkdir -p "$folder/told"
+    if grep -q '/told/' "$ROOMS_ETC/west.nginx"; then return; fi
+    sed -i "/location = \/rooms.json/i\\
+    location ~ ^/(news|status)\\.json\$ { alias $folder/\$1.json; }\\
+    location = /told/ { autoindex on; autoindex_format json; alias $folder/told/; }\\
+    location ~ \"^/told/(?<mark>[0-9-]+\\.[0-9]{10,11})\$\" {\\
+        limit_except PUT { deny all; }\\
+        auth_basic_user_file $ROOMS_ETC/west.bookers;\\
+        dav_methods PUT;\\
+        alias $folder/told/\$mark;\\
+    }" "$ROOMS_ETC/west.nginx"
+    stop_nginx
+    start_nginx
 }
 
 # deploy_rooms DB: a replica with twelve rooms and some bookings, two of them committed
@@ -540,30 +626,82 @@ deploy_rooms() {
     "$program" book "$1" room-c 20 "$day" 15:10 Tea > /dev/null
 }
 
-run_deploy() {
-    local deploy_scratch=$scratch/deploy nginx='' ports west east parser
-    local -a serving=()
-    local PATH=$PATH:/usr/sbin:/sbin
-    mkdir -p "$deploy_scratch"
+# ---- the parts, each of which tests/part runs in a shell of its own
+
+# deploy_begin: a folder and ports for the part, and no office
+deploy_begin() {
+    unset ROOMS_ETC ROOMS_STATE ROOMS_SHARE ROOMS_USER ROOMS_COURIER ROOMS_CALENDAR ROOMS_CALENDARS ROOMS_PROGRAM
+    deploy_scratch=$(mktemp -d "$scratch/deploy.XXXXXX")
+    nginx='' west='' east='' serving=()
+    PATH=$PATH:/usr/sbin:/sbin
     free_ports
+}
+
+run_deploy_texts() {
+    deploy_begin
     deploy_texts
-    if ! missing 'the front' perl python3; then deploy_front; fi
-    if ! missing 'the courier' curl; then deploy_courier; fi
-    if ! missing 'the courier with an older program' curl python3; then deploy_courier_older; fi
-    if ! missing 'offices' curl flock perl python3; then deploy_made_offices; fi
-    if ! missing 'news' curl flock perl python3; then deploy_news; fi
-    if ! missing 'proxy, stretches of serving and page' curl openssl nginx flock; then
-        deploy_offices
-        deploy_lost_office
-        start_nginx
-        deploy_proxy
-        deploy_courier_through_proxies
-        deploy_stretches
-        if ! missing 'the calendars' zdump && python_with icalendar; then deploy_calendars; fi
-        if ! missing 'the page in a browser' python3 chromium chromedriver; then deploy_page; fi
-        stop_nginx
-    fi
     if ! missing 'the units' systemd-analyze; then deploy_units; fi
     if ! missing 'the package' dpkg-deb dpkg-shlibdeps strip; then deploy_package; fi
-    unset ROOMS_ETC ROOMS_STATE ROOMS_SHARE ROOMS_USER ROOMS_COURIER ROOMS_CALENDAR ROOMS_CALENDARS ROOMS_PROGRAM
+}
+
+run_front() {
+    deploy_begin
+    if ! missing 'the front' perl python3; then deploy_front; fi
+}
+
+run_courier() {
+    deploy_begin
+    if ! missing 'the courier' curl; then deploy_courier; fi
+    if ! missing 'the courier with an older program' curl python3; then deploy_courier_older; fi
+}
+
+run_news() {
+    deploy_begin
+    if ! missing 'news' curl flock perl python3; then deploy_news; fi
+}
+
+run_poor_lines() {
+    deploy_begin
+    if ! missing 'the courier on poor lines' curl flock python3; then deploy_lines; fi
+}
+
+run_offices() {
+    deploy_begin
+    if ! missing 'offices' curl flock perl python3; then deploy_made_offices; fi
+}
+
+run_proxy() {
+    deploy_begin
+    if missing 'proxy and stretches of serving' curl openssl nginx flock; then return; fi
+    deploy_offices
+    deploy_lost_office
+    start_nginx
+    deploy_proxy
+    deploy_courier_through_proxies
+    deploy_stretches
+    if ! missing 'the calendars' zdump && python_with icalendar; then deploy_calendars; fi
+    stop_nginx
+}
+
+run_page() {
+    deploy_begin
+    if missing 'the page in a browser' curl openssl nginx flock python3 chromium chromedriver; then return; fi
+    deploy_offices
+    # everybody may read
+    sed -i 's/auth_basic "west: reading";/auth_basic off;/' "$ROOMS_ETC/west.nginx"
+    start_nginx
+    deploy_page
+    stop_nginx
+}
+
+# all of them, one after the other
+run_deploy() {
+    run_deploy_texts
+    run_front
+    run_courier
+    run_news
+    run_poor_lines
+    run_offices
+    run_proxy
+    run_page
 }

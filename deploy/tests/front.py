@@ -88,37 +88,45 @@ class Tests:
         return subprocess.Popen([program or self.front, *words], cwd=self.folder, env={**self.env, **(env or {})}, stdin=subprocess.DEVNULL,
                                 stdout=subprocess.PIPE, stderr=subprocess.PIPE, text=True)
 
+    def write(self, name, content):
+        with open(self.path(name), 'wb') as it:
+            it.write(content)
+
+    def read(self, name):
+        with open(self.path(name), 'rb') as it:
+            return it.read()
+
     def make(self, name, server=1, room='oak'):
         for words in (['init', name, str(server), '1'], ['add-room', name, room]):
             subprocess.run([self.program, *words], cwd=self.folder, check=True, stdout=subprocess.DEVNULL)
 
 
 def helps(t):
-    status, out, err = t.call('--help')
-    t.same('help is no output', (status, out), (0, ''))
-    t.has('the table of commands', err, *(f'\n  {name} ' for name in COMMANDS.split()))
+    status, table, err = t.call('--help')
+    t.same('help that was asked for is output', (status, err), (0, ''))
+    t.has('the table of commands', table, *(f'\n  {name} ' for name in COMMANDS.split()))
     for words in ['-h'], ['help'], ['help', 'help']:
-        t.same(f'{words}', t.call(*words), (0, '', err))
+        t.same(f'{words}', t.call(*words), (0, table, ''))
     for name in COMMANDS.split():
-        status, out, said = t.call('help', name)
-        t.same(f'help {name}', (status, out), (0, ''))
+        status, said, err = t.call('help', name)
+        t.same(f'help {name}', (status, err), (0, ''))
         t.has(f'help {name} has its words and an example', said, f'rooms {name} ', '\nFor instance:  rooms ')
-        t.same(f'{name} --help', t.call(name, '--help'), (0, '', said))
+        t.same(f'{name} --help', t.call(name, '--help'), (0, said, ''))
     t.same('--help behind other words', t.call('sheet', 'west.db', '-h'), t.call('help', 'sheet'))
-    status, out, said = t.call('--version')
-    t.same('the version', (status, out, said.startswith('rooms 0.')), (0, '', True))
+    status, said, err = t.call('--version')
+    t.same('the version', (status, err, said.startswith('rooms 0.')), (0, '', True))
     status, out, said = t.call('help', 'bok')
     t.same('help of no command', (status, out), (2, ''))
     t.has('what was meant', said, "there is no command 'bok'; did you mean `book`?")
     status, shown = t.at_terminal()
-    t.same('no words at a terminal', (status, shown), (2, err))
+    t.same('no words at a terminal', (status, shown), (2, table))
     t.same('no words, and a script', t.call(input=b'replica 1\n', stdin=None), (0, 'ok\n', ''))
     # the examples can be copied
     t.make('west.db')
     with open(t.path('one.script'), 'w', encoding='ascii') as it:
         it.write('replica 1\n')
     for name in 'add-room', 'book', 'sheet', 'calendar', 'outcome', 'errors', 'cancel', 'commit', 'position':
-        line = t.call('help', name)[2].rpartition('For instance:  ')[2].strip()
+        line = t.call('help', name)[1].rpartition('For instance:  ')[2].strip()
         ran = subprocess.run(['bash', '-c', f'rooms() {{ "{t.program}" "$@"; }}; {line}'], cwd=t.folder, capture_output=True, text=True, check=False)
         t.same(f'the example {line}', (ran.returncode, ran.stderr), (1 if name == 'add-room' else 0, ''))
 
@@ -236,6 +244,52 @@ def words(t):
     t.same('a terminal without hints', t.at_terminal('sheet', 'd.db', 'oak', '09:00', env={'ROOMS_HINTS': '0'}), (1, 'refused 1 BadDay\n'))
 
 
+# what `export` may be told to write over: the bytes that are there, and what is said then, where it isn't done
+OUTPUTS = {
+    'text.out': (b'something else\n', 'text.out is there and is no batch'),
+    'position.out': (b'mp2 9 1\nK 0\nE\n', 'position.out is there and is no batch'),
+    'almost.out': (b'mr3 1 1\nE\n', 'almost.out is there and is no batch'),
+    'short.out': (b'mx', 'short.out is there and is no batch'),
+    'first.out': (b'mr1 9 1\nE\n', None),
+    'second.out': (b'mr2 9 1\nE\n', None),
+    'torn.out': (b'mr', None),
+    'empty.out': (b'', None),
+}
+
+
+def outputs(t):
+    """`export` writes over no database, and over no other file that is no batch; with hints and without, and at a terminal."""
+    t.make('o.db')
+    t.make('other.db', 2)
+    t.write('o.position', b'mp2 9 1\nK 0\nE\n')
+    os.symlink('other.db', t.path('link.out'))
+    t.write('logged.out', b'')
+    t.write('logged.out-wal', b'')
+    # of the position's version
+    batch = b'mr2 1 1\nE\n'
+    wrote = (0, f'wrote {len(batch)} bytes\n', '')
+    for ask in t.call, t.hinted:
+        refused = [(name, part) for name, (_, part) in OUTPUTS.items() if part]
+        refused += [('o.db', 'o.db is a database'), ('other.db', 'other.db is a database'), ('link.out', 'link.out is a database'),
+                    ('logged.out', 'logged.out-wal is there, so logged.out is a database')]
+        for name, (content, _) in OUTPUTS.items():
+            t.write(name, content)
+        for name, part in refused:
+            before = t.read(name)
+            status, out, said = ask('export', 'o.db', 'o.position', name, '10')
+            t.same(f'export to {name}', (status, out, said.count('\n'), said[:7], t.read(name) == before), (3, '', 1, 'rooms: ', True))
+            t.has(f'export to {name}', said, part, 'export would write over it')
+        for name in [*(name for name, (_, part) in OUTPUTS.items() if not part), 'absent.out']:
+            t.same(f'export to {name}', (ask('export', 'o.db', 'o.position', name, '10'), t.read(name)), (wrote, batch))
+        os.remove(t.path('absent.out'))
+        t.same('export to a device', ask('export', 'o.db', 'o.position', '/dev/null', '10'), wrote)
+        t.same('export to a folder', ask('export', 'o.db', 'o.position', '.', '10')[:2], (3, 'fault file\n'))
+        t.same('export with a word too few', ask('export', 'o.db', 'o.position', 'o.db')[:2], (2, 'bad command line\n'))
+    status, shown = t.at_terminal('export', 'o.db', 'o.position', 'other.db', '10')
+    t.same('export to a database, at a terminal', (status, shown), (3, 'rooms: other.db is a database: export would write over it; name another file for the batch\n'))
+    t.same('the databases are as they were', [t.call('position', name)[0] for name in ('o.db', 'other.db')], [0, 0])
+
+
 def rooms_taken(t):
     """A request that got no room, a cancel of nothing, and a day that is past."""
     t.make('r.db')
@@ -268,7 +322,7 @@ def merges(t):
     for name, part in ('batch1', [0, 1, 2, 4]), ('batch2', [0, 3, 4]):
         with open(t.path(name), 'w', encoding='ascii') as it:
             it.write(''.join(lines[n] + '\n' for n in part))
-    shutil.copy(t.path('m.db'), t.path('n.db'))
+    shutil.copy(t.path('m.db'), t.path('m2.db'))
     wanted = f"""rooms: of the requests that this office made (m.db): 1 lost the room, 1 moved, 1 found a room
     2-1 East supplier lost its room oak on {DAY} at 13:00
     2-4 Waits has the room oak by now, on {DAY} at 13:30
@@ -278,7 +332,7 @@ def merges(t):
     t.same('an import that changes nothing', t.hinted('import', 'm.db', 'batch1'), (0, 'took 0 writes 0 commits\n', ''))
     t.same('an import with a cancel', t.hinted('import', 'm.db', 'batch2'), (0, 'took 1 writes 0 commits\n',
            f'rooms: of the requests that this office made (m.db): 1 cancelled\n    2-4 Waits in oak, which was on {DAY} at 13:30, was cancelled by 1-3\n'))
-    t.same('an import without hints', t.call('import', 'n.db', 'batch1'), (0, 'took 2 writes 0 commits\n', ''))
+    t.same('an import without hints', t.call('import', 'm2.db', 'batch1'), (0, 'took 2 writes 0 commits\n', ''))
     t.make('p.db', 1)
     for hour in range(24):
         t.call('book', 'p.db', 'oak', '60', '2030-03-05', f'{hour:02}:00', 'Of one')
@@ -464,7 +518,7 @@ def main(arguments):
         print(__doc__, file=sys.stderr)
         return 2
     t = Tests(*arguments)
-    for group in helps, same_lines, same_outputs, words, rooms_taken, merges, turns, served, room_names, itself, signals, limits, rights:
+    for group in helps, same_lines, same_outputs, words, outputs, rooms_taken, merges, turns, served, room_names, itself, signals, limits, rights:
         group(t)
     print(f'{t.passed} passed, {t.failed} failed')
     return 1 if t.failed else 0

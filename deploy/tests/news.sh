@@ -104,8 +104,8 @@ how_others_stand() {
     held 'the check of a caller that came' eval '"$deploy/check/rooms-check" north | grep -qE "; west called [0-9] s ago"'
 }
 
-# asked PORT PATH WORD..: a reply of the office, whose pauses are waited for
-asked() {
+# reply_of PORT PATH WORD..: a reply of the office, whose pauses are waited for
+reply_of() {
     local port=$1 path=$2
     shift 2
     curl -s -f --retry 20 --retry-delay 0 --retry-connrefused --retry-all-errors "$@" "http://127.0.0.1:$port$path"
@@ -125,11 +125,11 @@ beside_serving() {
     ROOMS_CALENDAR=$folder/calendar "$office" serve west > "$folder/served" 2>&1 &
     serving+=($!)
     reached 'west is not served' 60 taken "$port"
-    held 'a request' asked "$port" /submit -d "$booking"
+    held 'a request' reply_of "$port" /submit -d "$booking"
     held 'nothing is committed while east was not met' until_held 60 grep -qx 'nothing is committed until these are met: east' "$folder/served"
-    is 'so it says' "$(asked "$port" /position | sed -n 2p)" 'K 0'
+    is 'so it says' "$(reply_of "$port" /position | sed -n 2p)" 'K 0'
     echo "$(($(date +%s) - 3000)) 0 https://east:8442 done: 0" > "$ROOMS_STATE/west/carried"
-    held 'once it was met it is' until_held 60 eval 'asked "$port" /position | grep -qx "K 1"'
+    held 'once it was met it is' until_held 60 eval 'reply_of "$port" /position | grep -qx "K 1"'
     held 'and that is said' grep -qx 'all offices were met: commits go on' "$folder/served"
     is 'all that while the calendars were made' "$(cat "$folder/slow")" begun
     touch "$folder/go"
@@ -168,6 +168,6 @@ deploy_news() {
     news_to_hook
     how_others_stand
     beside_serving "$ports"
-    rm -r "$ROOMS_ETC"/west.* "$ROOMS_STATE/west"
+    rm -r "$ROOMS_ETC"/west.* "$ROOMS_ETC/north.conf" "$ROOMS_STATE"/{west,north}
     week_of_offices "$ports"
 }

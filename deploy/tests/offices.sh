@@ -1,8 +1,8 @@
 # How offices are made, get rooms and are put away: rooms-office and rooms-check on folders of their own. Read by deploy.sh, whose
 # functions and variables are used here.
 
-# everything that lies in the folders of offices
-all_files() { (cd "$folder" && find etc state -printf '%p %s\n' | sort); }
+# everything that lies in the folders of offices, but the lines of a stretch, which may be under way
+all_files() { (cd "$folder" && find etc state ! -name stretch -printf '%p %s\n' | sort); }
 
 # refuses NAME STATUS TEXT WORD..: rooms-office with these words says so, and leaves everything as it was
 refuses() {
@@ -38,11 +38,15 @@ refused_offices() {
     refuses 'a room twice' 1 'the room elm stands there twice' make east 2 1 $((port + 2)) $((port + 3)) elm oak elm
     refuses 'a name that is none' 1 "a name is a letter and at most 15 letters and digits, not 'East'" make East 2 1 $((port + 2)) $((port + 3)) oak
     refuses 'too few words' 2 'the words are: make NAME SERVER PRIMARY PORT TLS ROOM.. (rooms-office --help has them all)' make east 2 1
-    refuses 'no verb' 2 'the words are: make, rooms, add-room, user, remove, serve, backup or carry, and a name (rooms-office --help has them all)' other
+    refuses 'no verb' 2 'the words are: make, rooms, add-room, user, remove, rescue, anew, pack, unpack, serve, backup, carry or watch, and what each needs (rooms-office --help has them all)' other
     python3 -c "import http.server; http.server.HTTPServer(('127.0.0.1', $((port + 2))), http.server.SimpleHTTPRequestHandler).serve_forever()" 2> /dev/null &
     serving+=($!)
     reached 'nothing listens' 10 taken $((port + 2))
     refuses 'a port that is taken' 1 "the port $((port + 2)) is taken by another program: take another" make east 2 1 $((port + 2)) $((port + 3)) oak
+    mkdir -p "$folder/nginx/sites-enabled"
+    printf 'server {\n\tlisten %s default_server;\n\tlisten [::]:%s default_server;\n}\n' $((port + 2)) $((port + 2)) > "$folder/nginx/sites-enabled/default"
+    ROOMS_NGINX=$folder/nginx refuses 'a port that nginx needs' 1 "the port $((port + 2)) is taken by another program, and nginx, which isn't running, is to have it by $folder/nginx/sites-enabled/default: end that program, or take the file out" \
+        make east 2 1 $((port + 4)) $((port + 3)) oak
     stop_serving
 }
 
@@ -150,4 +154,7 @@ deploy_made_offices() {
     failing_offices "$ports"
     rooms_of_offices
     put_away_offices "$ports"
+    rescued_offices "$ports"
+    trips "$ports"
+    watched_offices "$ports"
 }
