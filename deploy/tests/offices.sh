@@ -155,4 +155,5 @@ deploy_made_offices() {
     rescued_offices "$ports"
     trips "$ports"
     watched_offices "$ports"
+    week_of_offices "$ports"
 }
