@@ -1,6 +1,26 @@
 # What the files of tests share: each function but `minutes` runs the program, or compares what it printed or wrote, and counts the result
-# in $passed or $failed. ./test sources this file, and sets $program (the built program), $scratch (a folder for files), $quick
+# in $passed or $failed. tests/part sources this file, and sets $program (the built program), $scratch (a folder for files), $quick
 # (another, in memory where there is such a place), $passed and $failed before.
+
+# count_of NAME FILE [WORD]: adds the counts in the last line of a tool's output, of those that begin with the word where one is given
+count_of() {
+    local line
+    line=$(grep -E "^${3:-}[0-9]+ passed, [0-9]+ failed" "$2" | tail -n 1)
+    line=${line#"${3:-}"}
+    if [[ $line =~ ^([0-9]+)\ passed,\ ([0-9]+)\ failed ]]; then
+        passed=$((passed + BASH_REMATCH[1]))
+        failed=$((failed + BASH_REMATCH[2]))
+    else
+        echo "FAILED: $1 printed no result"
+        failed=$((failed + 1))
+    fi
+}
+
+# not_gated NAME: reports that this is skipped where no gate ran just before, which alone makes what it needs
+not_gated() {
+    if [ -n "${ROOMS_GATED-}" ]; then return 1; fi
+    echo "skipped: $1 (the gate makes it)"
+}
 
 # told NAME STATUS WANTED_STATUS FILE: the status is the wanted one, and $scratch/out has the bytes of this file
 told() {

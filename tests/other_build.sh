@@ -1,6 +1,6 @@
 # The program as Rattle's own compiler builds it, which the gate makes beside LLVM's and runs on one script: the scripts whose commands go without
-# memory, on databases; a database of the first schema that moves up; and requests over HTTP. ./test sources this file; the functions of
-# tests/lib.sh, tests/http/http.sh, tests/files/commands.sh and tests/files/kept.sh and the variables of ./test are used here.
+# memory, on databases; a database of the first schema that moves up; and requests over HTTP. tests/part sources this file; the functions of
+# tests/lib.sh, tests/http/http.sh, tests/files/commands.sh and tests/files/kept.sh and the variables of tests/part are used here.
 
 # it moves the kept database up, which LLVM's build then finds as it has to be
 run_other_kept() {
@@ -33,12 +33,14 @@ run_other_served() {
 
 run_other_build() {
     local program=$program.by-rattle script
+    if not_gated 'the program as the other compiler builds it'; then return; fi
     if [ ! -x "$program" ]; then
         echo 'FAILED: there is no program that Rattle'"'"'s own compiler built'
         failed=$((failed + 1))
         return
     fi
-    mkdir "$scratch/other"
+    mkdir -p "$scratch/other" "$scratch/commands"
+    kept_files
     run_other_kept
     run_other_served
     if ! command -v python3 > /dev/null; then

@@ -6,15 +6,22 @@ definition. Of these a copy is made in a folder of the edit's name, in which the
 whose contract and proof name these. All other modules of the crate that are needed stand there once. So one check tries all edits of a crate, each by
 the very proof that its crate has, and reads what it needs of the crate and of the libraries once.
 
+A line `row: NAME` below `rows: MODULE` says which of the examples refuses the edit. Then the copy of that file has this one alone, and what it names there:
+each example computes all that it is made of anew.
+
 A line `crate: NAME` says that the definition is one of that crate, below the one whose law or rows refuse the edit. Then the modules that lead from the
 one to the other are copied from both, and from the crates between them.
 """
+import copy
 import functools
 import os
 import re
 
 # A declaration is refused since two types, values or terms are not the same. (What rests on a declaration that was refused, a name that isn't there, and
 # a text that can't be read are told otherwise, and don't count.)
+# the name of what a block of a file declares, and the names that a line imports
+DECLARED = re.compile(r"^(?!--|use )(?:[a-z]+ )*([\w'-]+)(?: \{[^}\n]*\})? :", re.M)
+IMPORTED = re.compile(r"use [\w.]+\.\{(.*)\}$")
 UNEQUAL = re.compile(r"`[^`]*`: (?:as printed, |computed as far as they go, )?(?:the two (?:types|values|terms) |expected type `)")
 
 
@@ -30,9 +37,30 @@ def write(file, text):
 
 
 def told_by(file):
-    """What has to refuse the edit in this file: its kind, which is `law` or `rows`, and its name; two empty words where it has no such line."""
-    found = re.search(r"^(law|rows): (\S+)$", text_of(file), re.M)
-    return found.groups() if found else ("", "")
+    """What has to refuse the edit in this file: its kind, which is `law` or `rows`, its name, and that of the one row where a line has it; empty words where
+    it has no such line."""
+    found, row = (re.search(it, text_of(file), re.M) for it in (r"^(law|rows): (\S+)$", r"^row: (\S+)$"))
+    return (*(found.groups() if found else ("", "")), row[1] if row else "")
+
+
+def row_alone(text, row):
+    """The text of a file of rows, with this row and the declarations of the file that it names, and so on, alone; None where it has no such row."""
+    words_in = lambda text: set(re.findall(r"[\w'-]+", text))
+    # (what is indented goes on with the block above)
+    head, *blocks = re.split(r"\n\n+(?! )", text)
+    # those that declare no name, such as records, all stay
+    names = {found[1] if (found := DECLARED.search(it)) else at: it for at, it in enumerate(blocks)}
+    if row not in names:
+        return None
+    needed, left = set(), [row, *(it for it in names if isinstance(it, int))]
+    while left:
+        needed.add(it := left.pop())
+        left += (words_in(names[it]) & set(names)) - needed
+    kept = [it for name, it in names.items() if name in needed]
+    words = words_in("\n".join(kept))
+    # (a name that isn't a word is of the language's own libraries)
+    used = lambda line: not (found := IMPORTED.match(line)) or any(not re.fullmatch(r"[\w'-]+", it) or it in words for it in re.split(r",\s*", found[1]))
+    return "\n\n".join(["\n".join(it for it in head.split("\n") if used(it)), *kept]) + "\n"
 
 
 def turned_crate(crate, file):
@@ -56,6 +84,12 @@ class Modules:
 
     def names_in(self, text):
         return set(self.name.findall(text)) & set(self.texts)
+
+    def with_text(self, module, text):
+        """The same modules, of which one has this text."""
+        other = copy.copy(self)
+        other.texts, other.named = {**self.texts, module: text}, {**self.named, module: self.names_in(text)}
+        return other
 
     def needed(self, roots):
         """These modules, and those that they name, and so on."""
@@ -87,11 +121,14 @@ class Law:
     """What has to refuse an edit of the turned crate: a function of the crate, or a file of rows. It stands on the modules `roots`; None where there is
     no such."""
 
-    def __init__(self, crate, turned, kind, name):
+    def __init__(self, crate, turned, kind, name, row=""):
         self.crate, self.turned, self.kind, self.name, self.modules = crate, turned, kind, name, modules_between(crate, turned)
         self.source = self.answers = self.roots = None
         if kind == "rows" and f"{crate.name}.proofs.{name}" in self.modules.texts:
-            self.roots = {f"{crate.name}.proofs.{name}"}
+            module = f"{crate.name}.proofs.{name}"
+            text = row_alone(self.modules.texts[module], row) if row else self.modules.texts[module]
+            if text is not None:
+                self.modules, self.roots = self.modules.with_text(module, text), {module}
         elif kind == "law":
             self.find_function(*name.rpartition("::")[::2])
 
@@ -119,7 +156,7 @@ class Copies:
         """Adds the copies for the edit of that name, which has these texts of files, by their paths in the crate that it turns."""
         modules, texts = law.modules, {f"{law.turned.name}.{path[: -len('.antt')].replace('/', '.')}": text for path, text in texts.items()}
         copied = modules.between(law.roots, texts)
-        self.shared |= {it: modules.texts[it] for it in modules.needed(law.roots) if it.startswith(f"{self.crate.name}.")}
+        self.shared |= {it: modules.texts[it] for it in modules.needed(law.roots) - copied if it.startswith(f"{self.crate.name}.")}
         for part, nodes in self.nodes.items():
             own = sorted(it for it in copied if it.split(".")[1] == part)
             for it in own:

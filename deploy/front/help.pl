@@ -84,9 +84,10 @@ sub print_command {
 }
 
 sub version {
-    for my $file ("$folder/version", "$folder/../package/debian/changelog") {
+    # of the package a file has it alone, else the first heading of CHANGELOG.md that is one
+    for my $file ("$folder/version", "$folder/../../CHANGELOG.md") {
         open my $lines, '<', $file or next;
-        return $1 if <$lines> =~ /^(?:rooms \()?([0-9][0-9.]*)/;
+        while (<$lines>) { return $1 if /^(?:## )?([0-9][0-9.]*)/ }
     }
     return 'of no known version';
 }

@@ -339,7 +339,7 @@ sub look_at_day {
 }
 
 sub no_room {
-    my ($id, $name, $database, $room, @words) = @_;
+    my ($id, $mark, $name, $database, $room, @words) = @_;
     my @choices;
     my $length;
     if ($name eq 'book') {
@@ -357,7 +357,8 @@ sub no_room {
         $free //= $next;
     }
     say_line("there is NO ROOM for request $id: $room is taken at ", @choices > 1 ? 'all its choices' : join(' ', @{ $choices[0] // ['its time'] }),
-        "; it stands in the error log, and nobody has to cancel it");
+        $mark eq 'C' ? '; that is final' : '');
+    print STDERR "    while it is T it may still get a room: if you ask for another one, call rooms cancel $database $room $id\n" if $mark eq 'T';
     print STDERR "    $_ is in the way\n" for @way;
     print STDERR "    $room is free for $length minutes from $free\n" if defined $free;
 }
@@ -365,6 +366,7 @@ sub no_room {
 sub cancelled_nothing {
     my ($target, $database, $room) = @_;
     my $outcome = ask('outcome', $database, $room, $target) =~ s/\n//r;
+    return say_line("request $target has no room, and now it gets none any more: the cancel takes it back if it were to get one") if $outcome =~ / T logged$/;
     my $why = $outcome =~ / cancelled . (\S+)/ ? "cancel $1 has taken it back already" : $outcome =~ / logged$/ ? 'it never got a room' : 'it has none';
     say_line("nothing was cancelled: request $target has no booking to take back, $why ($outcome)");
 }
@@ -393,7 +395,7 @@ sub hint {
         $said = refusal($line // guessed_line($name, @words), $name, @words) // 'it was refused; docs/FORMATS.md has all refusals';
     }
     elsif ($status == 3) { $said = fault($line // '', $name, @words) }
-    elsif ($status == 0 and $line =~ /^(\d+-\d+) [TC] logged$/) { no_room($1, $name, @words) }
+    elsif ($status == 0 and $line =~ /^(\d+-\d+) ([TC]) logged$/) { no_room($1, $2, $name, @words) }
     elsif ($status == 0 and $line =~ /^\d+-\d+ [TC] void (\d+-\d+)$/) { cancelled_nothing($1, @words) }
     say_line($said) if defined $said;
     say_line("no connection was asked for, so it has ended: rooms serve $words[0] $words[1] 1000 serves a thousand") if $status == 0 and $name eq 'serve';

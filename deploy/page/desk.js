@@ -1,13 +1,24 @@
-// The front desk as a whole: the address, the rounds of asking, the views, and what is printed. It asks the office's routes alone,
+// The front desk as a whole: the address, the rounds of asking, and the views. It asks the office's routes alone,
 // and shows every text of theirs as text. `rooms.json` names the rooms.
 //
-// texts.js has what needs no reply, office.js asks; over them stand requests.js (states, cancels), form.js (the wish), grid.js and
-// this file. Each of the lower ones reaches the page as a whole by `page` of office.js.
-import { byId, el, buttonOf, dayBeside, FIRST, freeOf, hoursText, isDay, LAST, MIDNIGHT, minuteOf, put, renew, timeOf, weekday, weekOf } from './texts.js';
-import { Fault, askErrors, askOffice, askSheet, at, clock, labelOf, missed, now, office, page, sheetOf, silence } from './office.js';
-import { askMine, closeBox, readMine, report, stateOf, takeMine } from './requests.js';
-import { showForm, startOver, submit, takeOffer } from './form.js';
-import { columns, focusGrid, keepCursor, moveCursor, showGrid, watchWidth } from './grid.js';
+// texts.js has what needs no reply, office.js asks; over them stand states.js, cancel.js and box.js (any request), mine.js over follow.js
+// (this browser's own), offers.js and wish.js under form.js (what is asked for), grid.js, find.js, newslist.js over news.js, and this file.
+// Each of the lower ones reaches the page as a whole by `page` of office.js.
+import { byId, el, dayBeside, FIRST, isDay, LAST, MIDNIGHT, put, timeOf, weekday } from './texts.js';
+import { Fault, askErrors, askOffice, askSheet, at, clock, labelOf, missed, momentOf, now, office, page, sheetOf, silence } from './office.js';
+import { closeBox } from './box.js';
+import { askMine, readMine, showMine, takeMine } from './mine.js';
+import { report, reportNoMore } from './states.js';
+import { submit } from './form.js';
+import { showForm, startOver, typed } from './wish.js';
+import { standsForNone } from './offers.js';
+import { showMet } from './met.js';
+import { askNews, status } from './news.js';
+import { openNews, showNews } from './newslist.js';
+import { dropOldSheets } from './kept.js';
+import { showFound } from './find.js';
+import { printDoor } from './print.js';
+import { columns, focusGrid, keepCursor, moveCursor, showGrid, watchWidth, weekShown } from './grid.js';
 
 const EVERY = 30000, AGAIN = 4000, VIEWS = ['day', 'week', 'find'];
 let rounds = 0, timer = 0;
@@ -55,6 +66,7 @@ function wanted() {
 async function round() {
   const number = ++rounds;
   clearTimeout(timer);
+  const begun = new Date();
   let pause = EVERY;
   try {
     if (!office.isKnown) return await loadOffice();
@@ -62,7 +74,7 @@ async function round() {
       await askSheet(room, day);
       if (number !== rounds) return;
     }
-    await askMine();
+    await askMine(begun);
     if (byId('log').open) showErrors(await askErrors(at.room));
   } catch (fault) {
     if (!(fault instanceof Fault)) throw fault;
@@ -70,6 +82,7 @@ async function round() {
     missed(fault);
     if (silence.failures < 3) pause = AGAIN;
   }
+  await askNews();
   if (number !== rounds) return;
   show();
   timer = setTimeout(round, pause);
@@ -78,7 +91,7 @@ async function round() {
 /** Reads which rooms there are; then the address is read anew, and the first round begins. */
 async function loadOffice() {
   await askOffice();
-  byId('office').textContent = document.title = office.name;
+  byId('office').textContent = office.name;
   for (const list of [byId('room'), byId('at-room')]) {
     list.replaceChildren(...office.rooms.map(room => el('option', { value: room.name }, labelOf(room.name))));
   }
@@ -97,11 +110,13 @@ function show() {
   byId('scroll').hidden = byId('legend').hidden = at.view === 'find';
   if (at.view === 'find') showFound(); else showGrid();
   showForm();
+  showNews();
+  showMet(byId('met'), status);
 }
 
 function showHead() {
-  const [first, last] = [weekOf(at.day)[0], weekOf(at.day).at(-1)];
-  byId('sheet-title').textContent = at.view === 'week' ? labelOf(at.room) + ', ' + first + ' to ' + last
+  const week = weekShown();
+  byId('sheet-title').textContent = at.view === 'week' ? labelOf(at.room) + ', ' + week[0] + ' to ' + week.at(-1)
     : (at.view === 'find' ? 'Free rooms, ' : '') + weekday(at.day) + ' ' + at.day;
   byId('day').value = at.day;
   byId('at-room').value = at.room;
@@ -116,11 +131,12 @@ function showHead() {
 
 /** Since when nothing was heard. One that is surely no more than the pause between two stretches of serving isn't reported. */
 function showAlarm(read, isRead) {
-  const isPause = silence.failures === 1 && !silence.cause.sent && isRead;
+  const isPause = silence.failures === 1 && !silence.cause.sent && isRead && !read.some(sheet => sheet.isKept);
   const isLost = silence.failures > 0 && !isPause;
-  const as = read.length ? clock(new Date(Math.min(...read.map(sheet => sheet.at)))) : '';
+  const at = new Date(Math.min(...read.map(sheet => sheet.at))), as = !read.length ? '' : read.some(sheet => sheet.isKept) ? momentOf(at) : clock(at);
   document.body.classList.toggle('old', isLost);
   byId('alarm').hidden = !isLost;
+  if (isLost) reportNoMore();
   put({ alarm: !isLost ? '' : 'No connection to the office since ' + clock(silence.since) + ' (' + silence.cause.message + '). ' +
     (isRead ? 'What is shown is old, of ' + as + '.' : 'There is no sheet to show.'),
   fresh: !isRead ? '' : (isLost ? 'Old: ' : '') + 'as of ' + as + (isLost ? '; asking on.' : '; asks again every half minute.') });
@@ -132,47 +148,9 @@ function showErrors(lines) {
     .replace(/^C /, '').replace(/^T (.*)$/, '$1 (not final yet)'))));
 }
 
-// ---- a free room
-
-/** Each room with the stretches of its day that are free for long enough. */
-function showFound() {
-  const length = Number(byId('find-length').value), from = byId('find-from').value, to = byId('find-to').value;
-  const isAsked = Number.isInteger(length) && length > 0 && from !== '' && to !== '';
-  if (!isAsked) return renew(byId('found'), el('li', { className: 'error' }, 'A length in minutes, and two times of day, please.'));
-  renew(byId('found'), ...office.rooms.map(({ name }) => {
-    const sheet = sheetOf(name, at.day), head = el('b', {}, labelOf(name));
-    if (!sheet || !sheet.rows) return el('li', {}, head, ' ', sheet ? 'This office does not know the room.' : 'Not read yet.');
-    const free = freeOf(sheet.rows, minuteOf(from), minuteOf(to)).filter(each => each.stop - each.start >= length);
-    return el('li', {}, head, el('span', { className: 'buttons' }, ...free.map(each => foundButton(name, each, length))),
-      free.length ? null : el('span', { className: 'hint' }, 'Not free for that long.'));
-  }));
-}
-
-function foundButton(room, free, length) {
-  const take = async () => {
-    if (!await takeOffer(room, at.day, free.start)) return;
-    byId('length').value = length;
-    show();
-  };
-  return buttonOf(hoursText(free.start, free.stop), take, { 'aria-label': labelOf(room) + ' is free ' + hoursText(free.start, free.stop) + ': ask for it' });
-}
-
-// ---- printing
-
-/** The sheet of one day and room, for its door; else what is on the screen is printed. */
-function printDoor() {
-  const sheet = sheetOf(at.room, at.day), rows = sheet && sheet.rows || [];
-  const lines = rows.map(row => el('tr', {}, el('td', {}, hoursText(row.start, row.stop)),
-    el('td', {}, row.title, el('br'), el('small', {}, row.id + ', ' + stateOf({ ...row, state: 'booked' })[0]))));
-  byId('door').replaceChildren(el('h2', {}, labelOf(at.room)), el('h3', {}, weekday(at.day) + ' ' + at.day),
-    lines.length ? el('table', {}, ...lines) : el('p', {}, sheet ? 'No bookings.' : 'No sheet was read.'),
-    el('p', {}, office.name + (sheet ? ', as of ' + now().day + ' ' + clock(sheet.at) : '')));
-  document.body.classList.add('for-door');
-  window.print();
-}
-
 function start() {
-  Object.assign(page, { show, round, goTo });
+  Object.assign(page, { show, showLists() { showMine(); showNews(); }, round, goTo });
+  dropOldSheets();
   readMine();
   byId('before').addEventListener('click', () => step(-1));
   byId('after').addEventListener('click', () => step(1));
@@ -185,10 +163,12 @@ function start() {
   byId('skip').addEventListener('click', event => { event.preventDefault(); byId('request').focus(); });
   byId('go-on').addEventListener('click', () => { byId('title').focus({ preventScroll: true }); byId('request').scrollIntoView(); });
   byId('form').addEventListener('submit', submit);
-  byId('clear').addEventListener('click', () => { startOver(); report(''); });
+  byId('form').addEventListener('input', typed);
+  byId('clear').addEventListener('click', () => { standsForNone(); startOver(); report(''); });
   for (const id of ['room', 'wish-day', 'wish-start', 'length', 'find-length', 'find-from', 'find-to']) byId(id).addEventListener('change', show);
+  byId('bar-open').addEventListener('click', openNews);
   byId('log').addEventListener('toggle', round);
-  byId('box').addEventListener('close', () => { closeBox(); focusGrid(); });
+  byId('box').addEventListener('close', () => { closeBox(); showMine(); focusGrid(); });
   byId('print-door').addEventListener('click', printDoor);
   watchWidth(() => { show(); round(); });
   window.addEventListener('afterprint', () => document.body.classList.remove('for-door'));

@@ -1,12 +1,15 @@
 // The display at a room's door, door.html#oak: free or taken, until when, and what comes next. It asks twice a minute, and where no
 // reply comes it goes on by what it read last, also after it was opened anew, and shows of when that is.
 import { byId, dayBeside, el, hoursText, MIDNIGHT, put, timeOf, weekday } from './texts.js';
-import { Fault, askOffice, askSheet, clock, labelOf, missed, now, office, page, silence } from './office.js';
+import { Fault, askFile, askOffice, askSheet, clock, labelOf, missed, now, office, page, silence } from './office.js';
+import { showMet } from './met.js';
 
 const EVERY = 30000, TICK = 1000;
 /** The sheets of today and tomorrow as they were read last: `days` by day, and when. */
 let news = { days: {}, at: null };
 let timer = 0;
+/** What the office's service said of itself last: status.json. */
+let status = null;
 
 const roomOf = () => location.hash.slice(1);
 const keep = () => 'rooms.door.' + roomOf();
@@ -25,6 +28,7 @@ async function round() {
     if (!(fault instanceof Fault)) throw fault;
     missed(fault);
   }
+  status = await askFile('/status.json');
   show();
   timer = setTimeout(round, EVERY);
 }
@@ -56,6 +60,7 @@ function show() {
   document.body.classList.toggle('old', isOld);
   if (!room) showRooms(); else if (!rows) showUnknown(rows); else showState(stateAt(rows, minute), day);
   const at = news.at ? clock(new Date(news.at)).slice(0, 5) : '';
+  showMet(byId('met'), status);
   put({ room: document.title, news: !isOld ? time.slice(0, 5) : at ? 'No connection. Last news of ' + at : 'No connection, and no news yet' });
 }
 

@@ -1,9 +1,13 @@
-// The request form: the wish and its alternatives, what stands in their way before they are sent, and what is free instead.
-import { byId, el, buttonOf, clashesOf, hoursText, isDay, isPlain, MIDNIGHT, minuteOf, nearestOf, plainOf, put, renew, timeOf, weekday } from './texts.js';
-import { Fault, ask, askMayBook, askSheet, at, labelOf, now, office, page, sheetOf } from './office.js';
-import { addMine, dropMine, keepMine, replied, report, showMine, stateOf, sure } from './requests.js';
+// The request form: what is asked before a wish is sent, and what comes back.
+import { byId, buttonOf, hoursText, isDay, isPlain, plainOf, weekday } from './texts.js';
+import { Fault, ask, askMayBook, askSheet, labelOf, now, page } from './office.js';
+import { calm, complain } from './fields.js';
+import { addMine, dropMine, keepMine, replied } from './mine.js';
+import { showOffers, standsFor, withdrawFirsts } from './offers.js';
+import { sure } from './question.js';
+import { report, stateOf } from './states.js';
+import { choices, clashWords, isWished, lengthOf, LONGEST, sameSlot, slots, slotText, startOver, takeOffer } from './wish.js';
 
-const FIELDS = { room: 'room', day: 'wish-day', start: 'wish-start', length: 'length', choices: 'choices', title: 'title', send: 'send' };
 const LENGTH = 'A length is a whole number of minutes from 1 to 1440, and at each choice the meeting ends at midnight at the latest.';
 const REFUSALS = {
   1: ['day', 'That is no day from 1990 to 2099.'],
@@ -16,123 +20,8 @@ const REFUSALS = {
   13: ['send', 'The greatest logical time is reached: this office takes no more requests. Tell the operator.'],
   14: ['send', 'This server’s numbers are used up: the office needs a new replica. Tell the operator.'],
 };
-const MOST_OFFERS = 4;
 
-let alternatives = [];
 let isSending = false;
-let foundNone = false;   // what is filled in was sent and found no room
-
-const sameSlot = (one, other) => one.day === other.day && one.start === other.start;
-const slotText = slot => slot.day + ' ' + slot.start;
-const wish = () => ({ day: byId('wish-day').value, start: byId('wish-start').value });
-const isWished = () => wish().day !== '' && wish().start !== '';
-const lengthOf = () => /^[0-9]{1,9}$/.test(byId('length').value.trim()) ? Number(byId('length').value) : 0;
-
-/** The slots that are asked for, the wish first, with their hours as far as they are filled in. */
-export function choices() {
-  const length = lengthOf() || 15, all = isWished() ? [{ ...wish(), words: 'Wish' }] : [];
-  all.push(...alternatives.map((slot, place) => ({ ...slot, words: 'Alternative ' + (place + 1) })));
-  return all.map(slot => {
-    const start = minuteOf(slot.start);
-    return { ...slot, room: byId('room').value, from: start, to: Math.min(start + length, MIDNIGHT) };
-  });
-}
-
-// ---- what is filled in
-
-function setWish(slot) {
-  byId('wish-day').value = slot.day;
-  byId('wish-start').value = slot.start;
-}
-
-/** A free slot of the grid was pressed: it becomes the wish or an alternative, or is taken back. */
-export async function chooseSlot(room, day, start) {
-  const slot = { day, start: timeOf(start) };
-  const place = alternatives.findIndex(each => sameSlot(each, slot));
-  if (!await leavesRoom(room, slot)) return;
-  takeRoom(room);
-  if (!isWished()) setWish(slot);
-  else if (sameSlot(wish(), slot)) setWish({ day: '', start: '' });
-  else if (place >= 0) alternatives.splice(place, 1);
-  else alternatives.push(slot);
-  page.show();
-}
-
-/** What was offered is pressed: it becomes the wish, in place of the one before. */
-export async function takeOffer(room, day, start) {
-  const slot = { day, start: timeOf(start) };
-  if (!foundNone && !await leavesRoom(room, slot)) return false;
-  takeRoom(room);
-  alternatives = alternatives.filter(each => !sameSlot(each, slot));
-  setWish(slot);
-  calm();
-  report('');
-  page.show();
-  byId('title').focus();
-  return true;
-}
-
-/** A wish is of one room. Where another one is pressed, it is asked whether the wish and its alternatives may go. */
-async function leavesRoom(room, slot) {
-  const before = byId('room').value, count = alternatives.length;
-  if (before === room || (!isWished() && !count)) return true;
-  const held = isWished() ? 'Your wish is ' + labelOf(before) + ', ' + slotText(wish()) : 'Your alternatives are for ' + labelOf(before);
-  return sure(held + (isWished() && count ? ', with ' + count + ' more' : '') + '. A request is for one room. Ask for ' + labelOf(room) +
-    ', ' + slotText(slot) + ' instead?', 'Change the room', 'Leave it');
-}
-
-function takeRoom(room) {
-  if (byId('room').value === room) return;
-  byId('room').value = room;
-  alternatives = [];
-  setWish({ day: '', start: '' });
-}
-
-export function startOver() {
-  alternatives = [];
-  setWish({ day: '', start: '' });
-  byId('title').value = '';
-  calm();
-  page.show();
-}
-
-// ---- what is shown of it
-
-export function showForm() {
-  renew(byId('choices'), ...alternatives.map((slot, place) => el('li', {}, weekday(slot.day, 'short') + ' ' + slotText(slot),
-    buttonOf('Take back', () => { alternatives.splice(place, 1); page.show(); byId('choices').focus(); },
-      { 'aria-label': 'Take back ' + slotText(slot) }))));
-  const [first] = choices();
-  const hours = isWished() ? hoursText(first.from, first.to) : '';
-  put({ 'wish-words': hours && isDay(first.day) ? weekday(first.day) + ' ' + first.day + ', ' + hours : '',
-    clash: hours && clashWords(first), 'go-on': hours && 'Go on: ' + labelOf(first.room) + ', ' + hours });
-  byId('go-on').hidden = !hours;
-}
-
-/** What stands in the way of a choice, by the sheet that was read last. */
-function clashWords(choice) {
-  const sheet = sheetOf(choice.room, choice.day);
-  const rows = clashesOf(sheet && sheet.rows || [], choice.from, choice.to);
-  return rows.map(row => timeOf(row.start) + ' to ' + timeOf(row.stop) + ' is ' + row.title + '.').join(' ');
-}
-
-function complain(field, ...words) {
-  byId(field + '-error').replaceChildren(...words);
-  byId(FIELDS[field]).setAttribute('aria-invalid', 'true');
-  byId(FIELDS[field]).focus();
-}
-
-function calm() {
-  foundNone = false;
-  byId('request').classList.remove('refused');
-  byId('offers').replaceChildren();
-  for (const [field, id] of Object.entries(FIELDS)) {
-    byId(field + '-error').textContent = '';
-    byId(id).removeAttribute('aria-invalid');
-  }
-}
-
-// ---- sending
 
 /** What is asked for, or null where the form complained. */
 function readForm() {
@@ -140,14 +29,14 @@ function readForm() {
   byId('title').value = title;
   if (!length) return complain('length', LENGTH), null;
   if (!isPlain(title)) return offerPlain(plainOf(title)), null;
-  const body = { room: byId('room').value, ...wish(), length, title };
-  return alternatives.length ? { ...body, alternatives } : body;
+  if (title.length > LONGEST) return complain('title', REFUSALS[5][1] + ' This one has ' + title.length + '.'), null;
+  return { ...slots(), length, title };
 }
 
 /** Titles have plain letters alone: the same title in these is offered. */
 function offerPlain(plain) {
   const words = 'Only plain letters can be kept, no accents and no other scripts. ';
-  if (!plain || plain.length > 60) return complain('title', words);
+  if (!plain || plain.length > LONGEST) return complain('title', words);
   complain('title', words, buttonOf('Take “' + plain + '”', () => { byId('title').value = plain; calm(); byId('title').focus(); }));
 }
 
@@ -217,32 +106,24 @@ async function send(asked) {
 async function accepted(entry, asked, outcome) {
   entry.first = entry.now = outcome;
   keepMine();
-  if (outcome.state !== 'booked') return noRoom(asked);
+  if (outcome.state !== 'booked') return noRoom(entry, asked);
   const place = (asked.alternatives || []).findIndex(slot => sameSlot(slot, outcome));
   const words = stateOf(outcome)[0] + ': ' + labelOf(asked.room) + ', ' + weekday(outcome.day) + ' ' + outcome.day + ', ' +
     outcome.start + '–' + outcome.stop + ' (request ' + outcome.id + ').';
   startOver();
   report(words + (place < 0 ? '' : ' That is alternative ' + (place + 1) + ': ' + slotText(asked) + ' was taken.'), true);
+  await withdrawFirsts(asked.title);
 }
 
 /** The form stays as it was; what is free near the wish is offered, in this room and in the others. */
-async function noRoom(asked) {
-  const offers = byId('offers');
-  report('No room: ' + labelOf(asked.room) + ' is taken at ' + slotText(asked) + (asked.alternatives ? ' and at each alternative' : '') + '.', false);
-  foundNone = true;
+async function noRoom(entry, asked) {
+  report('No room: ' + labelOf(asked.room) + ' is taken at ' + slotText(asked) + (asked.alternatives ? ' and at each alternative' : '') + '.' +
+    (entry.now.mark === 'T' ? ' The request may still get one until the offices have met. If you take an offer instead, it is withdrawn.' : ''), false);
+  if (entry.now.mark === 'T') standsFor(entry);
   byId('request').classList.add('refused');
   byId('wish-start').setAttribute('aria-invalid', 'true');
-  offers.replaceChildren();
-  for (const { name } of [...office.rooms].sort((one, other) => (other.name === asked.room) - (one.name === asked.room))) {
-    const { rows } = await askSheet(name, asked.day);
-    const isSame = name === asked.room;
-    const starts = rows ? nearestOf(rows, asked.length, minuteOf(asked.start), office.from, office.to).slice(0, isSame ? MOST_OFFERS : 1) : [];
-    if (!starts.length) continue;
-    offers.append(el('p', {}, el('b', {}, 'Free in ' + labelOf(name) + ': '), ...starts.map(start =>
-      buttonOf(hoursText(start, start + asked.length), () => takeOffer(name, asked.day, start), { 'aria-label': 'Ask for ' + labelOf(name) + ', ' + timeOf(start) }))));
-  }
+  await showOffers(byId('offers'), asked, takeOffer);
   byId('send').scrollIntoView({ block: 'center' });
-  if (!offers.children.length) offers.append(el('p', {}, 'Nothing of that length is free on that day in any room.'));
 }
 
 function refused(entry, reply) {

@@ -1,9 +1,10 @@
 // The sheets as columns to scale: the day of all rooms, the week of one, or, on a narrow screen, the day of one. A free quarter
 // hour and a booking are buttons; the wish and its alternatives are drawn over them with their whole length.
-import { byId, el, clashesOf, freeOf, hoursText, MIDNIGHT, timeOf, weekday, weekOf } from './texts.js';
+import { byId, dayBeside, el, clashesOf, freeOf, hoursText, MIDNIGHT, timeOf, weekday, weekOf } from './texts.js';
 import { at, labelOf, now, office, sheetOf } from './office.js';
-import { choices, chooseSlot } from './form.js';
-import { openBox, stateOf } from './requests.js';
+import { choices, chooseSlot } from './wish.js';
+import { openBox } from './box.js';
+import { stateOf } from './states.js';
 
 const QUARTER = 15, HOUR = 60, FEW = 2;
 const narrow = matchMedia('(max-width: 600px)');
@@ -11,9 +12,14 @@ let cursor = '';        // the key of the button that Tab reaches
 let scrolledFor = '';   // what was scrolled to its first hour already
 let drawn = '';         // what the grid shows
 
+/** The days of the week that is shown: from Monday on, or, on a narrow screen, which has room for few of them, from the chosen day on. */
+export function weekShown() {
+  return narrow.matches ? [...new Set([0, 1, 2, 3, 4, 5, 6].map(step => dayBeside(at.day, step)))] : weekOf(at.day);
+}
+
 /** What is shown beside one another: each column is a room on a day. */
 export function columns() {
-  if (at.view === 'week') return weekOf(at.day).map(day => ({ room: at.room, day, label: weekday(day) + ' ' + day, lines: [weekday(day), day] }));
+  if (at.view === 'week') return weekShown().map(day => ({ room: at.room, day, label: weekday(day) + ' ' + day, lines: [weekday(day), day] }));
   const names = narrow.matches && office.rooms.length > FEW ? [at.room] : office.rooms.map(room => room.name);
   return names.map(room => ({ room, day: at.day, label: labelOf(room), lines: [labelOf(room)] }));
 }
@@ -43,8 +49,9 @@ function cellOf(kind, column, start, stop, properties, ...children) {
 }
 
 function bookingOf(column, row) {
+  const isWished = choices().some(choice => isOf(choice, column) && clashesOf([row], choice.from, choice.to).length > 0);
   const outcome = { ...row, state: 'booked', day: column.day }, [word, kind] = stateOf(outcome), hours = hoursText(row.start, row.stop);
-  const cell = cellOf('booking ' + kind + (row.stop - row.start < 30 ? ' short' : ''), column, row.start, row.stop,
+  const cell = cellOf('booking ' + kind + (row.stop - row.start < 30 ? ' short' : '') + (isWished ? ' wished' : ''), column, row.start, row.stop,
     { 'aria-label': column.label + ', ' + hours + ', ' + row.title + ', ' + word, 'aria-haspopup': 'dialog' },
     el('span', { className: 'words' }, el('b', {}, row.title), ' ', el('span', {}, hours + (kind === 'sure' ? '' : ', not final'))));
   cell.addEventListener('click', () => openBox(column.room, column.day, row));
@@ -71,10 +78,10 @@ function slotsOf(column, rows, from, to) {
   });
 }
 
-/** A choice with its whole length, and in red what of it is taken. */
+/** A choice with its whole length, and in red what of it is taken: beside the words of the bookings that it overlaps. */
 function drawnOf(choice, rows) {
-  const clashes = clashesOf(rows, choice.from, choice.to);
-  return [placed(el('div', { className: 'choice' + (clashes.length ? ' clashing' : '') }, choice.words + ' ' + hoursText(choice.from, choice.to)),
+  const clashes = clashesOf(rows, choice.from, choice.to), words = choice.words + (clashes.length ? '' : ' ' + hoursText(choice.from, choice.to));
+  return [placed(el('div', { className: 'choice' + (clashes.length ? ' clashing' : '') }, el('span', { className: 'words' }, words)),
     choice.from, choice.to), ...clashes.map(row =>
     placed(el('div', { className: 'clash' }), Math.max(row.start, choice.from), Math.min(row.stop, choice.to)))];
 }
@@ -133,16 +140,26 @@ function draw(shown, from, to) {
   grid.style.setProperty('--columns', shown.length);
   grid.classList.toggle('week', at.view === 'week');
   grid.replaceChildren(timesOf(from, to), ...shown.map((column, place) => columnOf(column, place, from, to)));
+  fitHeads();
   placeCursor(held);
 }
 
-/** The first time that a day, a week or a room is shown, the hour before now is at the top, or that of the first booking. */
+/** All heads are as high as the longest name needs. */
+function fitHeads() {
+  const grid = byId('grid');
+  grid.style.removeProperty('--head');
+  const heights = [...grid.querySelectorAll('.column .head')].map(head => head.scrollHeight + head.offsetHeight - head.clientHeight);
+  if (heights.length) grid.style.setProperty('--head', Math.max(...heights) + 'px');
+}
+
+/** The first time that a day, a week or a room is shown, the hour of the first booking is at the top; where the day is today and the office is open, the hour before now. */
 function scrollOnce(shown, from) {
   const what = shown.map(column => column.room + column.day).join(), clock = now();
   if (scrolledFor === what || shown.some(column => !sheetOf(column.room, column.day))) return;
   scrolledFor = what;
   const starts = shown.flatMap(column => (sheetOf(column.room, column.day).rows || []).map(row => row.start));
-  const first = shown.some(column => column.day === clock.day) ? clock.minute : Math.min(MIDNIGHT, ...starts);
+  const isNow = at.view === 'day' && at.day === clock.day && clock.minute < office.to;
+  const first = isNow ? clock.minute : Math.min(MIDNIGHT, ...starts);
   const body = byId('grid').querySelector('.times .body'), hour = body.offsetHeight / (body.children.length || 1);
   byId('scroll').scrollTop = first === MIDNIGHT ? 0 : Math.max(0, Math.floor(first / HOUR) - 1 - from / HOUR) * hour;
 }
@@ -191,4 +208,7 @@ export function keepCursor(event) {
   cursor = cell.dataset.key;
 }
 
-export function watchWidth(act) { narrow.addEventListener('change', act); }
+export function watchWidth(act) {
+  narrow.addEventListener('change', act);
+  window.addEventListener('resize', fitHeads);
+}

@@ -1,5 +1,6 @@
 // The office, what it is asked, and what it answered last. The desk and the door know nothing of it but by these calls.
-import { clockOf, readSheet, minuteOf } from './texts.js';
+import { clockOf, readErrors, readSheet, minuteOf, weekday } from './texts.js';
+import { keepSheet, keptSheet } from './kept.js';
 
 const PATIENCE = 65000;
 
@@ -10,13 +11,19 @@ export const at = { day: '', view: 'day', room: '' };
 /** How long nothing was heard, and why; `sent` in the cause: the office may have had the request nevertheless. */
 export const silence = { failures: 0, since: null, cause: null };
 /** What the page as a whole does; each page puts its own in. */
-export const page = { show() {}, round() {}, goTo() {} };
+export const page = { show() {}, showLists() {}, round() {}, goTo() {} };
 
 const sheets = new Map();   // by room and day
+const errors = new Map();   // by room
 const seen = new Map();     // when a state was seen first
 
 export const now = () => clockOf(new Date(), office.zone);
 export const clock = date => clockOf(date, office.zone).time;
+/** A moment in words: its time, and its day where that isn't today. */
+export function momentOf(date) {
+  const { day, time } = clockOf(date, office.zone), today = now().day, short = time.slice(0, 5);
+  return day === today ? short : weekday(day, 'short') + ' ' + day + ' ' + short;
+}
 export const labelOf = room => (office.rooms.find(each => each.name === room) || {}).label || room;
 
 /** When the page saw this state for the first time. */
@@ -32,11 +39,11 @@ export class Fault extends Error {
   constructor(sent, words) { super(words); this.sent = sent; }
 }
 
-async function fetched(path, body) {
+async function fetched(path, body, method = body === undefined ? 'GET' : 'POST') {
   try {
-    const words = { cache: 'no-store', signal: AbortSignal.timeout(PATIENCE) };
+    const words = { cache: 'no-store', signal: AbortSignal.timeout(PATIENCE), method, body };
     // the address of the page may have a user and a password in it, which no address to be fetched may have
-    const reply = await fetch(new URL(path, location.origin), body === undefined ? words : { ...words, method: 'POST', body });
+    const reply = await fetch(new URL(path, location.origin), words);
     return { status: reply.status, text: await reply.text(), json: null };
   } catch {
     throw new Fault(true, 'no reply');
@@ -78,6 +85,25 @@ export async function askMayBook() {
   may = reply.status === 405;
 }
 
+/** What a file says that the office's service writes beside serving; null where there is none, or none that can be read. */
+export async function askFile(path) {
+  try {
+    const reply = await fetched(path);
+    return reply.status === 200 ? JSON.parse(reply.text) : null;
+  } catch (fault) {
+    if (!(fault instanceof Fault || fault instanceof SyntaxError)) throw fault;
+    return null;
+  }
+}
+
+/** Puts a mark that all desks of the office see. It may be put again. */
+export async function putMark(path) {
+  await askMayBook();
+  const reply = await fetched(path, '', 'PUT');
+  if (reply.status === 401 || reply.status === 403) throw new Fault(false, 'the password was refused');
+  if (reply.status !== 201 && reply.status !== 204) throw new Fault(true, 'status ' + reply.status);
+}
+
 /** A refusal that is about the office's state, where a sheet or an outcome was asked for. */
 function unlessFailing(reply) {
   if (reply.status === 503) throw new Fault(true, 'its store or memory fails: ' + reply.json.name);
@@ -106,6 +132,7 @@ export async function askSheet(room, day) {
   const sheet = { rows: reply.status === 200 ? readSheet(reply.text) : null, at: new Date() };
   for (const row of sheet.rows || []) sinceOf(stateKey(room, { state: 'booked', day, ...row }));
   sheets.set(room + ' ' + day, sheet);
+  if (sheet.rows) keepSheet(room, day, reply.text, sheet.at);
   return sheet;
 }
 
@@ -115,7 +142,15 @@ export function stateKey(room, outcome) {
   return [room, outcome.id, outcome.state, outcome.mark, outcome.day, start, outcome.bymark].join(' ');
 }
 
-export const sheetOf = (room, day) => sheets.get(room + ' ' + day) || null;
+/** The sheet that was read last; while no reply comes, also one that this browser kept from an earlier time. */
+export function sheetOf(room, day) {
+  const name = room + ' ' + day;
+  if (!sheets.has(name) && silence.failures) {
+    const kept = keptSheet(room, day);
+    if (kept) sheets.set(name, { rows: readSheet(kept.text), at: kept.at, isKept: true });
+  }
+  return sheets.get(name) || null;
+}
 
 /** What became of a request, or null where the office doesn't know it. */
 export async function askOutcome(room, id) {
@@ -127,5 +162,10 @@ export async function askOutcome(room, id) {
 /** The lines of the error log of a room. */
 export async function askErrors(room) {
   const reply = unlessFailing(await ask('/rooms/' + room + '/errors'));
-  return reply.status === 200 ? reply.text.split('\n').slice(1).filter(line => line) : ['(the room is not known here)'];
+  if (reply.status !== 200) return ['(the room is not known here)'];
+  const lines = reply.text.split('\n').slice(1).filter(line => line);
+  errors.set(room, { ...readErrors(lines), at: new Date() });
+  return lines;
 }
+
+export const errorsOf = room => errors.get(room) || null;

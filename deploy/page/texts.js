@@ -82,6 +82,16 @@ export function readSheet(text) {
   return rows;
 }
 
+/** What an error log says: the marks of the requests without a room by their ids, and the cancels that found no booking by what they cancel. */
+export function readErrors(lines) {
+  const marks = new Map(), withdrawn = new Map();
+  for (const line of lines) {
+    const [, mark, id, target] = /^([CT]) (\d+-\d+) (?:cancel (\d+-\d+)$)?/.exec(line) || [];
+    if (target) withdrawn.set(target, id); else if (id) marks.set(id, mark);
+  }
+  return { marks, withdrawn };
+}
+
 /** The bookings that share a minute with these hours. */
 export const clashesOf = (rows, start, stop) => rows.filter(row => row.start < stop && start < row.stop);
 

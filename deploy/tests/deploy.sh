@@ -1,5 +1,5 @@
 # What stands around the program, tried on the built program: proxy, courier, stretches of serving, units, package and page. Read
-# by ./test (or by deploy/tests/alone), whose variables passed, failed, scratch and program are used here; the last is the path of
+# by tests/part (or by deploy/tests/alone), whose variables passed, failed, scratch and program are used here; the last is the path of
 # the program. What a missing package would be needed for is skipped by name.
 
 deploy=$(cd -- "$(dirname -- "${BASH_SOURCE[0]}")/.." && pwd)
@@ -11,6 +11,7 @@ deploy=$(cd -- "$(dirname -- "${BASH_SOURCE[0]}")/.." && pwd)
 . "$deploy/tests/trips.sh"
 . "$deploy/tests/watched.sh"
 . "$deploy/tests/poor_week.sh"
+. "$deploy/tests/news.sh"
 
 # ---- texts that go with the program
 
@@ -39,13 +40,13 @@ deploy_texts() {
         COMP_WORDS=(rooms ex) COMP_CWORD=1
         _rooms
         echo "${COMPREPLY[*]}")" 'export exchange'
-    held 'the page is below 1600 lines' test "$(cat "$deploy"/page/* | wc -l)" -lt 1600
+    held 'no file of the page is long' test "$(wc -l "$deploy"/page/* | sed '/ total$/d' | sort -n | awk 'END { print $1 }')" -lt 260
     is 'the page makes no HTML of texts' "$(cat "$deploy"/page/*.js | grep -cE 'innerHTML|outerHTML|insertAdjacentHTML|document\.write')" 0
     is 'the page has no code or style within its HTML, and nothing from elsewhere' \
         "$(cat "$deploy"/page/*.html | grep -cE '<style|style=|<script>| on[a-z]+=|https?://')" 0
     if ! missing 'shellcheck of the scripts' shellcheck; then
         held 'shellcheck of the scripts' shellcheck -x "$deploy"/tests/under_systemd "$deploy"/systemd/rooms-office \
-            "$deploy"/courier/rooms-courier "$deploy"/check/rooms-check "$deploy"/calendar/rooms-calendar "$deploy"/package/build "$deploy"/package/debian/{postinst,prerm,postrm} \
+            "$deploy"/courier/rooms-courier "$deploy"/check/rooms-check "$deploy"/calendar/rooms-calendar "$deploy"/news/peers.sh "$deploy"/package/build "$deploy"/package/debian/{postinst,prerm,postrm} \
             rooms "$deploy/front/start"
         held 'shellcheck of the parts of rooms-office' shellcheck -s bash -e SC2154 "$deploy"/systemd/office/*.sh
     fi
@@ -83,7 +84,7 @@ deploy_offices() {
         ROOMS_PROGRAM
     ROOMS_PROGRAM=$(readlink -f -- "$program")
     mkdir -p "$ROOMS_SHARE"
-    cp -r "$deploy/page" "$deploy/front" "$deploy/proxy/office.conf.in" "$deploy/systemd/office.settings.in" "$deploy/systemd/page_rooms.pl" \
+    cp -r "$deploy/page" "$deploy/front" "$deploy/news" "$deploy/proxy/office.conf.in" "$deploy/systemd/office.settings.in" "$deploy/systemd/page_rooms.pl" \
         "$ROOMS_SHARE"
     held 'an office is made' "$deploy/systemd/rooms-office" make west 1 1 $((ports)) $((ports + 1)) oak elm
     held 'it names the zone of its clock' grep -qF '"zone": "'"$(readlink -f /etc/localtime | sed -n 's,.*/zoneinfo/,,p')"'"' "$ROOMS_ETC/west.rooms.json"
@@ -91,7 +92,7 @@ deploy_offices() {
     is 'an office is not made twice' "$("$deploy/systemd/rooms-office" make west 1 1 1 1 oak 2>&1)" \
         "rooms-office: there is $ROOMS_ETC/west.conf already"
     for name in west east; do
-        openssl req -x509 -newkey rsa:2048 -nodes -days 2 -subj /CN=localhost -addext subjectAltName=DNS:localhost \
+        openssl req -x509 -newkey rsa:2048 -nodes -days 60 -subj /CN=localhost -addext subjectAltName=DNS:localhost \
             -keyout "$ROOMS_ETC/$name.key" -out "$ROOMS_ETC/$name.crt" 2> /dev/null
         for list in readers bookers offices; do
             held "a user of $name.$list" "$deploy/systemd/rooms-office" user "$list" "$name.$list" <<< "$list"
@@ -103,7 +104,8 @@ deploy_offices() {
     is 'a user is in a list once' "$(grep -c '^desk:' "$ROOMS_ETC/west.bookers") $(wc -l < "$ROOMS_ETC/west.bookers")" '1 2'
     is 'a list that is not there' "$("$deploy/systemd/rooms-office" user desk west.conf <<< desk 2>&1)" \
         "rooms-office: no list is named 'west.conf'"
-    sed -i "s,/var/cache/rooms,$ROOMS_CALENDARS," "$ROOMS_ETC"/*.nginx
+    sed -i "s,/var/cache/rooms,$ROOMS_CALENDARS,g; s,/var/log/nginx,$deploy_scratch," "$ROOMS_ETC"/*.nginx
+    mkdir -p "$ROOMS_CALENDARS"/{west,east}/{told,callers}
     # a machine without IP version 6
     if [ ! -e /proc/net/if_inet6 ]; then sed -i '/listen \[::\]/d' "$ROOMS_ETC"/*.nginx; fi
     west=$ROOMS_STATE/west/rooms.db
@@ -168,6 +170,31 @@ through() {
 # body NAME TEXT: what came last
 body() { is "$1" "$(cat -- "$deploy_scratch/body")" "$2"; }
 
+# marks that somebody was told, and files that the service makes
+deploy_marks() {
+    local mark=/told/1-17.1764536710
+    echo '{"items":[]}' > "$ROOMS_CALENDARS/west/news.json"
+    through 'the news' 200 readers /news.json
+    body 'as they are' '{"items":[]}'
+    through 'the news without a password' 401 '' /news.json
+    through 'a state that is not there yet' 404 readers /status.json
+    through 'a mark by a reader' 401 readers "$mark" -X PUT -d ''
+    through 'a mark by another site' 403 bookers "$mark" -X PUT -d '' -H 'Sec-Fetch-Site: cross-site'
+    through 'a mark' 201 bookers "$mark" -X PUT -d ''
+    through 'a mark that is there' 204 bookers "$mark" -X PUT -d ''
+    through 'a mark that is none' 404 bookers /told/1-17 -X PUT -d ''
+    through 'a mark elsewhere' 404 bookers '/told/..%2f1-17.1764536710' -X PUT -d ''
+    through 'a mark with a text' 413 bookers "$mark" -X PUT -d 'a text'
+    through 'a mark is not removed' 403 bookers "$mark" -X DELETE
+    through 'a mark is not read' 403 bookers "$mark"
+    through 'marks without a password' 401 '' /told/
+    through 'the marks' 200 readers /told/
+    is 'their list' "$(python3 -c 'import json, sys; print([it["name"] for it in json.load(sys.stdin)])' < "$deploy_scratch/body")" "['1-17.1764536710']"
+    is 'nothing else was made' "$(find "$ROOMS_CALENDARS/west/told" -type f -printf '%f %s\n')" '1-17.1764536710 0'
+    is 'nobody called yet' "$(ls "$ROOMS_CALENDARS/west/callers")" ''
+    rm "$ROOMS_CALENDARS/west/news.json"
+}
+
 deploy_proxy() {
     local day=/rooms/oak/days/1995-12-18 json='{"room":"oak","day":"1995-12-18","start":"13:30","length":60,"title":"Budget Meeting"}'
     local cancel='{"id":"7-1","room":"oak"}' sheet='oak 1995-12-18 Monday
@@ -208,8 +235,12 @@ deploy_proxy() {
     head -c 1048577 /dev/zero > "$deploy_scratch/large"
     through 'a body that is too large' 413 bookers /submit --data-binary "@$deploy_scratch/large" -H 'Expect:'
     through 'a path that is not served' 404 readers /calendar
+    deploy_marks
     through 'the position of an office' 200 offices /position
+    is 'who called' "$(ls "$ROOMS_CALENDARS/west/callers")" offices
+    held 'and in the log of all' grep -q ' offices .*"GET /position HTTP/1.1" 200 ' "$deploy_scratch/access.log"
     is 'no password goes on, and no request twice' "$(grep -c '^200$' "$west.served")" 5
+    guessed_passwords
     sed -i 's/auth_basic "west: reading";/auth_basic off;/' "$ROOMS_ETC/west.nginx"
     # the worker of the old configuration may take a connection until it ends
     read -r -a workers < <(cat -- "/proc/$nginx/task/$nginx/children" 2> /dev/null)
@@ -218,7 +249,6 @@ deploy_proxy() {
     reached 'the page is not open to everybody' 10 curl -sf --cacert "$ROOMS_ETC/west.crt" "https://localhost:$((ports + 1))/"
     through 'a sheet where everybody may read' 200 '' "$day"
     through 'a request there' 401 '' /submit -d "$json"
-    guessed_passwords
     stop_serving
 }
 
@@ -227,13 +257,13 @@ guessed_passwords() {
     local began number
     printf 'url = "https://localhost:%s/rooms.json"\nuser = "desk:guess"\noutput = "/dev/null"\n' $((ports + 1)) > "$deploy_scratch/guess"
     for number in $(seq 13); do
-        curl -s -m 60 --cacert "$ROOMS_ETC/west.crt" -K "$deploy_scratch/guess" -w '%{http_code} %{time_starttransfer}\n' > "$deploy_scratch/guess.$number" &
+        curl -s -m 120 --cacert "$ROOMS_ETC/west.crt" -K "$deploy_scratch/guess" -w '%{http_code} %{time_starttransfer}\n' > "$deploy_scratch/guess.$number" &
     done
     sleep 1
     began=$SECONDS
     for _ in 1 2 3 4 5; do through 'the right password beside guesses' 200 readers /rooms.json; done
     held 'it is not slowed' test $((SECONDS - began)) -lt 5
-    until_held 30 eval '[ "$(cat "$deploy_scratch"/guess.* | grep -c "^401")" = 13 ]'
+    until_held 90 eval '[ "$(cat "$deploy_scratch"/guess.* | grep -c "^401")" = 13 ]'
     is 'guesses are refused as ever' "$(cat "$deploy_scratch"/guess.* | grep -c '^401 ')" 13
     held 'the last comes late' test "$(cat "$deploy_scratch"/guess.* | cut -d ' ' -f 2 | sort -n | tail -n 1 | cut -d . -f 1)" -ge 4
 }
@@ -394,7 +424,7 @@ has_line() { curl -s -m 10 "http://127.0.0.1:$1" | grep -q -- "$2"; }
 deploy_stretches() {
     local name office=$deploy/systemd/rooms-office line
     sed -i 's/^STRETCH=.*/STRETCH=2/' "$ROOMS_ETC/west.conf"
-    sed -i "s/^STRETCH=.*/STRETCH=3/; s/^TRUNCATE=.*/TRUNCATE=yes/; s,^PEERS=.*,PEERS=('https://localhost:$((ports + 1)) $ROOMS_ETC/west.curl')," \
+    sed -i "s/^STRETCH=.*/STRETCH=3/; s/^TRUNCATE=.*/TRUNCATE=yes/; s,^PEERS=.*,PEERS=('west=https://localhost:$((ports + 1)) $ROOMS_ETC/west.curl')," \
         "$ROOMS_ETC/east.conf"
     for name in west east; do
         "$office" serve "$name" > "$deploy_scratch/$name.log" 2>&1 &
@@ -413,6 +443,10 @@ deploy_stretches() {
     is 'it says what it is' "$(sed -n 's/^content-type: *//Ip' "$deploy_scratch/head" | tr -d '\r')" 'text/calendar; charset=utf-8'
     body 'the file as it was written' "$(cat "$ROOMS_CALENDARS/west/oak.ics")"
     through 'a file beside the calendars' 404 readers /.seen
+    held 'the called office knows who called' until_held 10 grep -q '"peers":\[\],"callers":\[{"name":"offices","met":"20' "$ROOMS_CALENDARS/west/status.json"
+    held 'the calling office knows whom it met' until_held 10 grep -q '"peers":\[{"name":"west","met":"20[^"]*","fault":null}\],"callers":\[' "$ROOMS_CALENDARS/east/status.json"
+    through 'how the office stands to the others' 200 readers /status.json
+    through 'the news of the office' 200 readers /news.json
     held 'the commit comes to east' until_held 30 has_line "$((ports + 2))/rooms/oak/requests/2-1" '"mark":"C"'
     held 'a copy while it is served' "$office" backup east
     line=$("$deploy/check/rooms-check" east)
@@ -560,7 +594,7 @@ page_test() {
 }
 
 deploy_page() {
-    local folder=$deploy_scratch/page
+    local folder=$deploy_scratch/page room
     mkdir -p "$folder"
     "$program" init "$folder/desk.db" 2 1 > /dev/null
     "$program" add-room "$folder/desk.db" oak > /dev/null
@@ -572,6 +606,36 @@ deploy_page() {
     page_test desk.py
     deploy_rooms "$folder/views.db"
     page_test views.py
+    "$program" init "$folder/mine.db" 1 1 > /dev/null
+    "$program" init "$folder/news.db" 2 1 > /dev/null
+    for room in oak elm; do
+        "$program" add-room "$folder/mine.db" "$room" > /dev/null
+        "$program" add-room "$folder/news.db" "$room" > /dev/null
+    done
+    "$program" book "$folder/news.db" oak 90 2095-12-19 09:00 Standing > /dev/null
+    "$program" book "$folder/news.db" oak 90 2095-12-19 09:00 '<img src=x onerror="document.title=1"> & Co' > /dev/null
+    "$program" book "$folder/news.db" oak 60 2095-12-19 14:00 Afternoon > /dev/null
+    page_test mine.py
+    proxy_news
+    page_test news.py
+}
+
+# the proxy's places of the news, where its configuration has none
+proxy_news() {
+    local folder=$ROOMS_CALENDARS/west
+    mkdir -p "$folder/told"
+    if grep -q '/told/' "$ROOMS_ETC/west.nginx"; then return; fi
+    sed -i "/location = \/rooms.json/i\\
+    location ~ ^/(news|status)\\.json\$ { alias $folder/\$1.json; }\\
+    location = /told/ { autoindex on; autoindex_format json; alias $folder/told/; }\\
+    location ~ \"^/told/(?<mark>[0-9-]+\\.[0-9]{10,11})\$\" {\\
+        limit_except PUT { deny all; }\\
+        auth_basic_user_file $ROOMS_ETC/west.bookers;\\
+        dav_methods PUT;\\
+        alias $folder/told/\$mark;\\
+    }" "$ROOMS_ETC/west.nginx"
+    stop_nginx
+    start_nginx
 }
 
 # deploy_rooms DB: a replica with twelve rooms and some bookings, two of them committed
@@ -587,30 +651,82 @@ deploy_rooms() {
     "$program" book "$1" room-c 20 "$day" 15:10 Tea > /dev/null
 }
 
-run_deploy() {
-    local deploy_scratch=$scratch/deploy nginx='' ports west east parser
-    local -a serving=()
-    local PATH=$PATH:/usr/sbin:/sbin
-    mkdir -p "$deploy_scratch"
+# ---- the parts, each of which tests/part runs in a shell of its own
+
+# deploy_begin: a folder and ports for the part, and no office
+deploy_begin() {
+    unset ROOMS_ETC ROOMS_STATE ROOMS_SHARE ROOMS_USER ROOMS_COURIER ROOMS_CALENDAR ROOMS_CALENDARS ROOMS_PROGRAM
+    deploy_scratch=$(mktemp -d "$scratch/deploy.XXXXXX")
+    nginx='' west='' east='' serving=()
+    PATH=$PATH:/usr/sbin:/sbin
     free_ports
+}
+
+run_deploy_texts() {
+    deploy_begin
     deploy_texts
-    if ! missing 'the front' perl python3; then deploy_front; fi
-    if ! missing 'the courier' curl; then deploy_courier; fi
-    if ! missing 'the courier with an older program' curl python3; then deploy_courier_older; fi
-    if ! missing 'the courier on poor lines' curl flock python3; then deploy_lines; fi
-    if ! missing 'offices' curl flock perl python3; then deploy_made_offices; fi
-    if ! missing 'proxy, stretches of serving and page' curl openssl nginx flock; then
-        deploy_offices
-        deploy_lost_office
-        start_nginx
-        deploy_proxy
-        deploy_courier_through_proxies
-        deploy_stretches
-        if ! missing 'the calendars' zdump && python_with icalendar; then deploy_calendars; fi
-        if ! missing 'the page in a browser' python3 chromium chromedriver; then deploy_page; fi
-        stop_nginx
-    fi
     if ! missing 'the units' systemd-analyze; then deploy_units; fi
     if ! missing 'the package' dpkg-deb dpkg-shlibdeps strip; then deploy_package; fi
-    unset ROOMS_ETC ROOMS_STATE ROOMS_SHARE ROOMS_USER ROOMS_COURIER ROOMS_CALENDAR ROOMS_CALENDARS ROOMS_PROGRAM
+}
+
+run_front() {
+    deploy_begin
+    if ! missing 'the front' perl python3; then deploy_front; fi
+}
+
+run_courier() {
+    deploy_begin
+    if ! missing 'the courier' curl; then deploy_courier; fi
+    if ! missing 'the courier with an older program' curl python3; then deploy_courier_older; fi
+}
+
+run_news() {
+    deploy_begin
+    if ! missing 'news' curl flock perl python3; then deploy_news; fi
+}
+
+run_poor_lines() {
+    deploy_begin
+    if ! missing 'the courier on poor lines' curl flock python3; then deploy_lines; fi
+}
+
+run_offices() {
+    deploy_begin
+    if ! missing 'offices' curl flock perl python3; then deploy_made_offices; fi
+}
+
+run_proxy() {
+    deploy_begin
+    if missing 'proxy and stretches of serving' curl openssl nginx flock; then return; fi
+    deploy_offices
+    deploy_lost_office
+    start_nginx
+    deploy_proxy
+    deploy_courier_through_proxies
+    deploy_stretches
+    if ! missing 'the calendars' zdump && python_with icalendar; then deploy_calendars; fi
+    stop_nginx
+}
+
+run_page() {
+    deploy_begin
+    if missing 'the page in a browser' curl openssl nginx flock python3 chromium chromedriver; then return; fi
+    deploy_offices
+    # everybody may read
+    sed -i 's/auth_basic "west: reading";/auth_basic off;/' "$ROOMS_ETC/west.nginx"
+    start_nginx
+    deploy_page
+    stop_nginx
+}
+
+# all of them, one after the other
+run_deploy() {
+    run_deploy_texts
+    run_front
+    run_courier
+    run_news
+    run_poor_lines
+    run_offices
+    run_proxy
+    run_page
 }

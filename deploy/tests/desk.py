@@ -69,6 +69,16 @@ def a_title():
     page.write('#title', ' Spaces at the ends ')
     page.click('#send')
     page.until('spaces at the ends of a title are dropped', '#outcome', '16:15–17:15')
+    check('what went well is reported', page.attribute('#outcome', 'class') == 'good')
+    page.write('#title', 'T' * 62)
+    check('and no more once the next title is typed', page.text('#outcome') == '', page.text('#outcome'))
+    page.until('the letters of a title are counted', '#title-count', '62 of 60 letters')
+    page.click(slot('elm', '17:00'))
+    page.click('#send')
+    page.until('a title that is too long is refused with its count', '#title-error', 'This one has 62')
+    page.write('#title', 'Müller')
+    page.until('as they can be kept', '#title-count', '7 of 60 letters')
+    page.click('#clear')
     page.until('and the title is kept', '#mine li:first-child', 'Spaces at the ends')
 
 
@@ -98,12 +108,50 @@ def a_clash():
     page.until('the free hours of that day are offered', '#offers', '13:00–14:00')
     page.until('and the next after it', '#offers', '15:00–16:00')
     page.until('and those of other rooms', '#offers', 'Free in Elm, 2nd floor: 13:30–14:30')
+    page.until('which may still get a room', '#outcome', 'may still get one until the offices have met')
     page.until('it is among mine', '#mine', 'No room')
+    page.until('also there', '#mine', 'It may still get a room until the offices have met')
     page.picture_of('no-room')
     page.click('#offers button[aria-label="Ask for Elm, 2nd floor, 13:30"]')
     check('an offer fills the form', [page.value('#room'), page.value('#wish-start'), page.value('#title')] == ['elm', '13:30', 'Squeezed in'])
     page.click('#send')
     page.until('the offer is booked', '#outcome', 'Elm, 2nd floor, Monday 2095-12-19, 13:30–14:30')
+    page.until('the request that it stands for is withdrawn', '#offers', 'Withdrawn: Squeezed in, by request 2-')
+    page.until('and so among mine', '#mine', 'withdrew it: it had no room')
+    page.open(f'{page.bare}/?again#{DAY}')
+    page.until('the office knows it as withdrawn', '#mine', 'withdrew it: it had no room')
+
+
+def a_request_that_waits():
+    """One that found no room and is withdrawn by hand; one whose place another one takes, which is no offer."""
+    no_room('Waits')
+    page.click('#clear')
+    page.click('#mine li:first-child button[data-key^="cancel"]')
+    page.until('a withdrawal asks first', '#mine li:first-child', 'Really withdraw?')
+    page.click('#mine li:first-child button[data-key^="cancel"]')
+    page.until('a withdrawal is reported', '#outcome', 'Withdrawn: Waits, by request 2-')
+    page.until('and seen in the list', '#mine li:first-child', 'Withdrawn')
+    check('it is not withdrawn twice', not page.has('#mine li:first-child button.cancel'))
+    no_room('Otherwise')
+    page.wish('elm', '11:00', 'Otherwise')
+    page.click('#send')
+    page.until('another one of that name asks about the one before', '#question', 'Otherwise, Oak) has no room')
+    page.click('#question button.main')
+    page.until('and withdraws it', '#offers', 'Withdrawn: Otherwise, by request 2-')
+    no_room('Left')
+    page.wish('elm', '12:00', 'Another meeting')
+    page.click('#send')
+    page.until('one of another name', '#outcome', 'Elm, 2nd floor, Monday 2095-12-19, 12:00')
+    time.sleep(0.5)
+    check('leaves it alone', not page.has('#question[open]') and 'Withdrawn: Left' not in page.text('#offers'))
+
+
+def no_room(title):
+    page.wish('oak', '14:00', title)
+    page.click('#send')
+    page.until(f'{title}: it asks', '#question', 'Ask all the same?')
+    page.click('#question button.main')
+    page.until(f'{title}: no room', '#outcome', 'No room: Oak is taken at 2095-12-19 14:00')
 
 
 def an_alternative():
@@ -295,10 +343,18 @@ def the_replica_ends():
     page.until('its last sheet is old', '#alarm', 'What is shown is old, of')
     page.until('its last sheet stays', '#grid', 'Earlier')
     page.wish('oak', '17:45', 'Lost')
+    check('what went well before is not beside a red bar', page.text('#outcome') == '', page.text('#outcome'))
     page.click('#send')
     page.until('a request that was not sent', '#send-error', 'Not booked')
     check('the form is as it was', page.value('#title') == 'Lost')
+    left = '#mine li:has(button[aria-label$=": Left"])'
+    page.click(f'{left} button.cancel')
+    page.click(f'{left} button.cancel')
+    page.until('a withdrawal that was not sent', left, 'Not withdrawn: the office is not taking requests. Nothing was sent; you may press Withdraw again')
     server, lines = silent_upstream()
+    page.click(f'{left} button.cancel')
+    page.click(f'{left} button.cancel')
+    page.until('a withdrawal without a reply', left, 'Perhaps withdrawn (no reply)')
     page.click('#send')
     page.until('a request without a reply', '#send-error', 'Perhaps booked')
     page.until('it stands among mine', '#mine', 'Perhaps booked')
@@ -306,9 +362,17 @@ def the_replica_ends():
         page.look()
         time.sleep(0.3)
     sent = [line for line in lines if line.startswith('POST')]
-    check('it was sent once', len(sent) == 1, sent)
+    check('each was sent once', [line.split()[1] for line in sent] == ['/cancel', '/submit'], sent)
     server.shutdown(socket.SHUT_RDWR)
     server.close()
+    page.open(f'{page.bare}/?down#{DAY}')
+    page.until('opened anew meanwhile, the page shows the last sheets', '#grid', 'Earlier')
+    page.until('as old ones', '#alarm', 'What is shown is old, of')
+    check('all of them', page.has(booking('elm', '13:30')) and 'Not read yet' not in page.text('#grid'))
+    page.open(f'{page.bare}/?down#2095-12-21')
+    page.until('a day that it never read', '#alarm', 'There is no sheet to show')
+    page.open(f'{page.bare}/?down#{DAY}')
+    page.until('the day that it read', '#grid', 'Earlier')
 
 
 def the_replica_is_back():
@@ -323,7 +387,7 @@ def the_replica_is_back():
     page.click('#send')
     page.until('a request after that', '#outcome', 'Elm, 2nd floor')
     check('the red bar goes with the first good reply', page.text('#alarm') == '', page.text('#alarm'))
-    page.open(f'{page.bare}/?again#{DAY}')
+    page.open(f'{page.bare}/?once-more#{DAY}')
     page.until('my requests outlast the page', '#mine', 'Perhaps booked')
     check('it was not sent by the page that was opened again', 'Lost' not in page.text('#grid'))
 
@@ -333,7 +397,7 @@ office, other = Office(program, f'{folder}/desk.db', port), Office(program, f'{f
 page = Page(int(free) + 1, os.path.join(folder, 'profile'), url, pictures)
 try:
     office.serve()
-    for step in (a_day_is_shown, a_request_by_clicking, a_title, a_clash, an_alternative, another_room, a_past_day, a_booking_is_pressed,
+    for step in (a_day_is_shown, a_request_by_clicking, a_title, a_clash, a_request_that_waits, an_alternative, another_room, a_past_day, a_booking_is_pressed,
                  taking_off_the_list, a_request_by_keys, a_move_arrives, keys_of_the_grid, a_refused_room, an_error_log,
                  one_who_may_not_book, the_replica_ends, the_replica_is_back):
         step()

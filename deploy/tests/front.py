@@ -88,6 +88,14 @@ class Tests:
         return subprocess.Popen([program or self.front, *words], cwd=self.folder, env={**self.env, **(env or {})}, stdin=subprocess.DEVNULL,
                                 stdout=subprocess.PIPE, stderr=subprocess.PIPE, text=True)
 
+    def write(self, name, content):
+        with open(self.path(name), 'wb') as it:
+            it.write(content)
+
+    def read(self, name):
+        with open(self.path(name), 'rb') as it:
+            return it.read()
+
     def make(self, name, server=1, room='oak'):
         for words in (['init', name, str(server), '1'], ['add-room', name, room]):
             subprocess.run([self.program, *words], cwd=self.folder, check=True, stdout=subprocess.DEVNULL)
@@ -236,6 +244,52 @@ def words(t):
     t.same('a terminal without hints', t.at_terminal('sheet', 'd.db', 'oak', '09:00', env={'ROOMS_HINTS': '0'}), (1, 'refused 1 BadDay\n'))
 
 
+# what `export` may be told to write over: the bytes that are there, and what is said then, where it isn't done
+OUTPUTS = {
+    'text.out': (b'something else\n', 'text.out is there and is no batch'),
+    'position.out': (b'mp2 9 1\nK 0\nE\n', 'position.out is there and is no batch'),
+    'almost.out': (b'mr3 1 1\nE\n', 'almost.out is there and is no batch'),
+    'short.out': (b'mx', 'short.out is there and is no batch'),
+    'first.out': (b'mr1 9 1\nE\n', None),
+    'second.out': (b'mr2 9 1\nE\n', None),
+    'torn.out': (b'mr', None),
+    'empty.out': (b'', None),
+}
+
+
+def outputs(t):
+    """`export` writes over no database, and over no other file that is no batch; with hints and without, and at a terminal."""
+    t.make('o.db')
+    t.make('other.db', 2)
+    t.write('o.position', b'mp2 9 1\nK 0\nE\n')
+    os.symlink('other.db', t.path('link.out'))
+    t.write('logged.out', b'')
+    t.write('logged.out-wal', b'')
+    # of the position's version
+    batch = b'mr2 1 1\nE\n'
+    wrote = (0, f'wrote {len(batch)} bytes\n', '')
+    for ask in t.call, t.hinted:
+        refused = [(name, part) for name, (_, part) in OUTPUTS.items() if part]
+        refused += [('o.db', 'o.db is a database'), ('other.db', 'other.db is a database'), ('link.out', 'link.out is a database'),
+                    ('logged.out', 'logged.out-wal is there, so logged.out is a database')]
+        for name, (content, _) in OUTPUTS.items():
+            t.write(name, content)
+        for name, part in refused:
+            before = t.read(name)
+            status, out, said = ask('export', 'o.db', 'o.position', name, '10')
+            t.same(f'export to {name}', (status, out, said.count('\n'), said[:7], t.read(name) == before), (3, '', 1, 'rooms: ', True))
+            t.has(f'export to {name}', said, part, 'export would write over it')
+        for name in [*(name for name, (_, part) in OUTPUTS.items() if not part), 'absent.out']:
+            t.same(f'export to {name}', (ask('export', 'o.db', 'o.position', name, '10'), t.read(name)), (wrote, batch))
+        os.remove(t.path('absent.out'))
+        t.same('export to a device', ask('export', 'o.db', 'o.position', '/dev/null', '10'), wrote)
+        t.same('export to a folder', ask('export', 'o.db', 'o.position', '.', '10')[:2], (3, 'fault file\n'))
+        t.same('export with a word too few', ask('export', 'o.db', 'o.position', 'o.db')[:2], (2, 'bad command line\n'))
+    status, shown = t.at_terminal('export', 'o.db', 'o.position', 'other.db', '10')
+    t.same('export to a database, at a terminal', (status, shown), (3, 'rooms: other.db is a database: export would write over it; name another file for the batch\n'))
+    t.same('the databases are as they were', [t.call('position', name)[0] for name in ('o.db', 'other.db')], [0, 0])
+
+
 def rooms_taken(t):
     """A request that got no room, a cancel of nothing, and a day that is past."""
     t.make('r.db')
@@ -244,13 +298,54 @@ def rooms_taken(t):
     t.same('no room: the reply is the program\'s', (status, out), (0, '1-2 T logged\n'))
     t.has('no room: what is in the way', err, 'NO ROOM for request 1-2', f'{DAY} 09:00-10:00 T 1-1 First is in the way', f'from {DAY} 10:00')
     t.has('no room: at a terminal', t.at_terminal('book', 'r.db', 'oak', '60', DAY, '09:30', 'Third')[1], '1-3 T logged\n', 'NO ROOM for request 1-3')
+    t.has('no room, yet', err, 'while it is T it may still get a room: if you ask for another one, call rooms cancel r.db oak 1-2\n')
     t.has('what became of it', t.hinted('outcome', 'r.db', 'oak', '1-2')[2], 'NO ROOM', '1-1 First is in the way')
-    t.same('a cancel', t.hinted('cancel', 'r.db', 'oak', '1-1'), (0, '1-4 T cancels 1-1\n', ''))
+    status, out, err = t.hinted('cancel', 'r.db', 'oak', '1-3')
+    t.same('a cancel of what has no room', (status, out, err), (0, '1-4 T void 1-3\n',
+           'rooms: request 1-3 has no room, and now it gets none any more: the cancel takes it back if it were to get one\n'))
+    t.same('a cancel', t.hinted('cancel', 'r.db', 'oak', '1-1'), (0, '1-5 T cancels 1-1\n', ''))
     status, out, err = t.hinted('cancel', 'r.db', 'oak', '1-1')
-    t.same('a second cancel', (status, out), (0, '1-5 T void 1-1\n'))
-    t.has('a second cancel', err, 'nothing was cancelled', 'cancel 1-4 has taken it back already')
+    t.same('a second cancel', (status, out), (0, '1-6 T void 1-1\n'))
+    t.has('a second cancel', err, 'nothing was cancelled', 'cancel 1-5 has taken it back already')
     status, out, err = t.hinted('book', 'r.db', 'oak', '60', '2020-01-01', '09:00', 'Old')
-    t.same('a day that is past', (status, out, err), (0, '1-6 T 2020-01-01 09:00-10:00\n', 'rooms: 2020-01-01 is past; the request stands all the same\n'))
+    t.same('a day that is past', (status, out, err), (0, '1-7 T 2020-01-01 09:00-10:00\n', 'rooms: 2020-01-01 is past; the request stands all the same\n'))
+
+
+def merges(t):
+    """What an exchange does to the requests of the office itself is told: worked by hand, with requests of office 3 that go before."""
+    t.make('m.db', 2)
+    for hour, title, *more in ('13:00', 'East supplier'), ('16:00', 'Stays'), ('17:00', 'Planning', f'{DAY}T18:00'), ('13:30', 'Waits'):
+        t.call('book', 'm.db', 'oak', '60', DAY, hour, title, *more)
+    t.call('cancel', 'm.db', 'oak', '2-2')
+    lines = ['mr2 1 1', f'W 1 1 1 oak 30 {DAY} 13:00 0 Earlier', f'W 1 2 2 oak 30 {DAY} 17:30 0 Late', 'X 1 3 99 oak 2 4', 'E']
+    # the request 1-1 takes 13:00 to 13:30: 2-1 loses its room, 2-4 gets one, which the cancel 1-3 takes back in the second batch
+    for name, part in ('batch1', [0, 1, 2, 4]), ('batch2', [0, 3, 4]):
+        with open(t.path(name), 'w', encoding='ascii') as it:
+            it.write(''.join(lines[n] + '\n' for n in part))
+    shutil.copy(t.path('m.db'), t.path('m2.db'))
+    wanted = f"""rooms: of the requests that this office made (m.db): 1 lost the room, 1 moved, 1 found a room
+    2-1 East supplier lost its room oak on {DAY} at 13:00
+    2-4 Waits has the room oak by now, on {DAY} at 13:30
+    2-3 Planning in oak, which was on {DAY} at 17:00, moved to 18:00
+"""
+    t.same('an import', t.hinted('import', 'm.db', 'batch1'), (0, 'took 2 writes 0 commits\n', wanted))
+    t.same('an import that changes nothing', t.hinted('import', 'm.db', 'batch1'), (0, 'took 0 writes 0 commits\n', ''))
+    t.same('an import with a cancel', t.hinted('import', 'm.db', 'batch2'), (0, 'took 1 writes 0 commits\n',
+           f'rooms: of the requests that this office made (m.db): 1 cancelled\n    2-4 Waits in oak, which was on {DAY} at 13:30, was cancelled by 1-3\n'))
+    t.same('an import without hints', t.call('import', 'm2.db', 'batch1'), (0, 'took 2 writes 0 commits\n', ''))
+    t.make('p.db', 1)
+    for hour in range(24):
+        t.call('book', 'p.db', 'oak', '60', '2030-03-05', f'{hour:02}:00', 'Of one')
+    t.make('q.db', 3)
+    for hour in range(24):
+        t.call('book', 'q.db', 'oak', '60', '2030-03-05', f'{hour:02}:00', 'Of three')
+    status, out, err = t.hinted('bridge', 'q.db', 'p.db')
+    t.same('a bridge', (status, out), (0, 'pulled 24 writes 0 commits\npushed 24 writes 0 commits\n'))
+    t.same('a bridge: the lines', (err.splitlines()[0], err.splitlines()[-1], err.count('\n')),
+           ('rooms: of the requests that this office made (q.db): 24 lost the room', '    and 4 more', 22))
+    t.make('four.db', 4)
+    t.call('book', 'four.db', 'oak', '30', '2030-03-05', '00:00', 'Of four')
+    t.has('a bridge at a terminal', t.at_terminal('bridge', 'q.db', 'four.db')[1], 'pushed 48 ', '(four.db): 1 lost the room\n    4-1 Of four lost its room oak on 2030-03-05 at 00:00\n')
 
 
 def turns(t):
@@ -423,7 +518,7 @@ def main(arguments):
         print(__doc__, file=sys.stderr)
         return 2
     t = Tests(*arguments)
-    for group in helps, same_lines, same_outputs, words, rooms_taken, turns, served, room_names, itself, signals, limits, rights:
+    for group in helps, same_lines, same_outputs, words, outputs, rooms_taken, merges, turns, served, room_names, itself, signals, limits, rights:
         group(t)
     print(f'{t.passed} passed, {t.failed} failed')
     return 1 if t.failed else 0

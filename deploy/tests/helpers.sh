@@ -65,11 +65,11 @@ ended() {
     done
 }
 
-# ten ports that nobody serves, from $ports on
+# ten ports that nobody serves, from $ports on; of those of this part of the tests (tests/part), where it is one
 free_ports() {
     local n
     for _ in 1 2 3 4 5 6 7 8 9; do
-        ports=$((10000 + RANDOM % 1000 * 10))
+        ports=$((${ROOMS_PORTS:-10000} + RANDOM % (${PORTS_OF_PART:-10000} / 10) * 10))
         for n in 0 1 2 3 4 5 6 7 8 9; do
             if taken $((ports + n)); then continue 2; fi
         done

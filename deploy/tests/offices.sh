@@ -1,8 +1,8 @@
 # How offices are made, get rooms and are put away: rooms-office and rooms-check on folders of their own. Read by deploy.sh, whose
 # functions and variables are used here.
 
-# everything that lies in the folders of offices
-all_files() { (cd "$folder" && find etc state -printf '%p %s\n' | sort); }
+# everything that lies in the folders of offices, but the lines of a stretch, which may be under way
+all_files() { (cd "$folder" && find etc state ! -name stretch -printf '%p %s\n' | sort); }
 
 # refuses NAME STATUS TEXT WORD..: rooms-office with these words says so, and leaves everything as it was
 refuses() {
@@ -106,14 +106,16 @@ ash              Ash, 3rd floor'
     is 'the rooms while it is served' "$("$office" rooms west | grep -c .)" 6
     "$ROOMS_PROGRAM" init "$folder/north.db" 9 1 > /dev/null
     sed "s/^SERVER=.*/SERVER=9/" "$ROOMS_ETC/west.conf" > "$ROOMS_ETC/north.conf"
+    cp "$json" "$ROOMS_ETC/north.rooms.json"
     mkdir "$ROOMS_STATE/north"
     is 'an office without its database' "$(ROOMS_BINARY=$ROOMS_PROGRAM ROOMS_PROGRAM=$deploy/front/rooms "$office" serve north 2>&1 | tail -n 1)" \
         "rooms-office: nothing is served: refused 26 NotAReplica (status 1): there is no $ROOMS_STATE/north/rooms.db; \`rooms init $ROOMS_STATE/north/rooms.db SERVER PRIMARY\` makes a database"
     mv "$folder/north.db" "$ROOMS_STATE/north/rooms.db"
     is 'an office whose port is taken' "$("$office" serve north 2>&1 | tail -n 1 | sed 's/[0-9]\{5\}/PORT/')" \
         'rooms-office: nothing is served: fault network (status 3): the port PORT is taken by another program'
-    rm -r "$ROOMS_ETC/north.conf" "$ROOMS_STATE/north"
-    refuses 'an office that is served is not removed' 1 'west is served: end that first' remove west
+    rm -r "$ROOMS_ETC"/north.* "$ROOMS_STATE/north" "$ROOMS_CALENDARS/north"
+    is 'an office that is served is not removed' "$("$office" remove west 2>&1)" 'rooms-office: west is served: end that first'
+    held 'nothing of it is gone' test -e "$ROOMS_ETC/west.conf" -a -e "$ROOMS_STATE/west/rooms.db"
     stop_serving
 }
 
@@ -140,7 +142,7 @@ deploy_made_offices() {
     export ROOMS_ETC ROOMS_STATE ROOMS_SHARE ROOMS_USER ROOMS_PROGRAM
     local -x LC_ALL=C ROOMS_CALENDAR=$deploy/calendar/rooms-calendar ROOMS_CALENDARS=$folder/calendars
     mkdir -p "$ROOMS_SHARE" "$ROOMS_ETC" "$ROOMS_STATE" "$ROOMS_CALENDARS/east"
-    cp -r "$deploy/page" "$deploy/front" "$deploy/proxy/office.conf.in" "$deploy/systemd/office.settings.in" "$deploy/systemd/page_rooms.pl" \
+    cp -r "$deploy/page" "$deploy/front" "$deploy/news" "$deploy/proxy/office.conf.in" "$deploy/systemd/office.settings.in" "$deploy/systemd/page_rooms.pl" \
         "$ROOMS_SHARE"
     for script in "$office" "$deploy/courier/rooms-courier" "$deploy/check/rooms-check" "$deploy/calendar/rooms-calendar" "$deploy/package/build" "$deploy/tests/alone" \
         "$deploy/tests/under_systemd"; do

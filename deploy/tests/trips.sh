@@ -2,7 +2,7 @@
 # late; a stick that is full. Read by deploy.sh, and run by offices.sh, whose functions and variables are used here.
 
 # all that an office has, by its number
-has() { "$ROOMS_PROGRAM" position "$ROOMS_STATE/$1/rooms.db" | tail -n +2 | tr '\n' ' '; }
+position_of() { "$ROOMS_PROGRAM" position "$ROOMS_STATE/$1/rooms.db" | tail -n +2 | tr '\n' ' '; }
 
 # unpacked NAME FILE: what it says it took, without the time
 unpacked() { "$office" unpack "$@" 2>&1 | sed 's/, packed at .*//'; }
@@ -12,9 +12,9 @@ packed() { "$office" pack "$@" 2>&1 | sed 's/ into .*//'; }
 # leaves NAME TEXT FILE: unpack at the island refuses this file, and nothing changes
 leaves() {
     local before
-    before=$(has island)
+    before=$(position_of island)
     is "$1" "$("$office" unpack island "$3" 2>&1)" "rooms-office: $2"
-    is "nothing changed: $1" "$(has island)" "$before"
+    is "nothing changed: $1" "$(position_of island)" "$before"
 }
 
 is_committed() { [ "$(curl -s "http://127.0.0.1:$port/position" | sed -n 's/^K //p')" = "$1" ]; }
@@ -33,7 +33,7 @@ there_and_back() {
     is 'which are new' "$(unpacked island "$stick/3")" 'took 0 writes 201 commits from west (server 1)'
     is 'an earlier file that comes late' "$(unpacked island "$stick/1")" 'took 0 writes 0 commits from west (server 1)'
     is 'what is known of west stays' "$(sed -n 2p "$ROOMS_STATE/island/known/1")" 'K 201'
-    is 'both have the same' "$(has island)" 'K 201 V 3 1 V 7 200 E '
+    is 'both have the same' "$(position_of island)" 'K 201 V 3 1 V 7 200 E '
     is 'a file for whoever it may be' "$(packed island any "$stick/any")" 'packed 201 writes 201 commits for any office'
     is 'is taken by a new office' "$(unpacked fresh "$stick/any")" 'took 201 writes 201 commits from island (server 3)'
 }

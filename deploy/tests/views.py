@@ -15,6 +15,7 @@ import time
 import zlib
 import zoneinfo
 
+from colours import names_and_colours
 from page import DAY, Office, Page, booking, check, slot, write_rooms
 
 program, folder, url, port, free, pictures, rooms_json = sys.argv[1:]
@@ -62,9 +63,64 @@ def a_week():
     check('a slot of another day', [page.value('#wish-day'), page.value('#room')] == ['2095-12-21', 'room-b'])
     page.run('document.querySelector("#scroll").scrollTop = 120')
     page.picture_of('week')
+    page.click('#clear')
     page.click('#after')
     page.until('the week after', '#sheet-title', '2095-12-26 to 2096-01-01')
-    page.click('#clear')
+
+
+BOXES = '''const boxOf = node => { const range = document.createRange(); range.selectNodeContents(node); return range.getBoundingClientRect(); };
+const all = [...document.querySelectorAll('.booking .words, .choice, .choice .words')].filter(each => !each.querySelector('.words'));
+const seen = node => { const own = boxOf(node), cut = node.closest('.booking, .choice').getBoundingClientRect();
+  return { left: Math.max(own.left, cut.left), right: Math.min(own.right, cut.right), top: Math.max(own.top, cut.top), bottom: Math.min(own.bottom, cut.bottom) }; };
+const meet = (one, other) => one.left < other.right && other.left < one.right && one.top < other.bottom && other.top < one.bottom;
+const bad = [];
+all.forEach((one, place) => all.slice(place + 1).forEach(other => {
+  if (meet(seen(one), seen(other))) bad.push([one.innerText, other.innerText]); }));
+return [all.length, bad];'''
+
+
+def labels():
+    """No label is printed on another one, nor cut off, wherever the wish is."""
+    for address, room, day in ((f'#{DAY}', 'room-b', DAY), (f'#{DAY}/week/room-b', 'room-b', DAY)):
+        show(address, again=True)
+        page.there('a booking to be in the way of', booking(room, '09:30', day))
+        for start in ('09:30', '09:00', '11:00'):
+            page.wish(room, start, 'In the way', day)
+            page.there(f'a wish at {start}', '.choice.clashing')
+            count, bad = page.run(BOXES)
+            check(f'at {start} no label is on another: {address}', count > 1 and bad == [], (count, bad))
+        page.click('#clear')
+    long = {'room-a': 'The large meeting room of building B, east wing, behind the lift, 3rd floor', **{name: THREE[name] for name in ('room-b', 'room-c')}}
+    write_rooms(rooms_json, long, zone='Europe/Berlin')
+    page.resize(900, 900)
+    show(f'#{DAY}', again=True)
+    page.there('a long name', booking('room-a', '09:30'))
+    cut = page.run('return [...document.querySelectorAll(".head")].map(each => [each.scrollHeight - each.clientHeight, each.offsetHeight])')
+    check('no name of a room is cut off', all(over <= 0 for over, _ in cut), cut)
+    check('all heads are as high', len({high for _, high in cut}) == 1, cut)
+    page.resize(1280, 900)
+    write_rooms(rooms_json, THREE, zone='Europe/Berlin')
+
+
+def evenings():
+    """After the office's hours each view opens where its bookings are, not at the evening."""
+    hour = datetime.datetime.now(datetime.timezone.utc).hour
+    ahead = (21 - hour + 12) % 24 - 12              # a zone in which it is between nine and ten in the evening
+    zone = f'Etc/GMT{-ahead:+}'
+    write_rooms(rooms_json, THREE, zone=zone)
+    today = datetime.datetime.now(zoneinfo.ZoneInfo(zone)).date().isoformat()
+    office.between(lambda: office.rooms('book', 'room-a', '60', today, '08:30', 'In the morning'))
+    page.resize(1280, 500)
+    for view in ('day', 'week'):
+        show(f'#{today}/{view}/room-a', again=True)
+        page.there(f'the {view} of today', booking('room-a', '08:30', today))
+        time.sleep(0.3)
+        seen = page.run('const box = document.querySelector(arguments[0]).getBoundingClientRect(), head = document.querySelector("#grid .column .head").getBoundingClientRect(),'
+                        ' scroll = document.querySelector("#scroll").getBoundingClientRect(); return box.top >= head.bottom - 1 && box.top < scroll.bottom',
+                        booking('room-a', '08:30', today))
+        check(f'in the evening the {view} shows the morning', seen)
+    page.resize(1280, 900)
+    write_rooms(rooms_json, THREE, zone='Europe/Berlin')
 
 
 def the_address():
@@ -207,6 +263,12 @@ def a_phone():
         time.sleep(0.3)
         wide = page.run('return document.documentElement.scrollWidth - window.innerWidth')
         check(f'{view} needs no scrolling of the page sideways', wide <= 0, wide)
+    show('#2095-12-23/week/room-b')
+    page.until('the week on a phone', '#sheet-title', 'Room B, floor 2, 2095-12-23 to 2095-12-29')
+    check('begins at the chosen day, which is seen whole', fits('#grid .column:nth-child(2) .head') and
+          'Friday' in page.text('#grid .column:nth-child(2) .head'), page.text('#grid .column:nth-child(2) .head'))
+    page.there('with its booking', booking('room-b', '13:00', '2095-12-23'))
+    page.picture_of('week-phone')
     page.open(f'{page.bare}/door.html#room-e')
     page.until('the door on a narrow screen', '#word', 'Free')
     check('it fits', page.run('return document.documentElement.scrollHeight <= innerHeight && document.documentElement.scrollWidth <= innerWidth'))
@@ -216,49 +278,12 @@ def a_phone():
 
 # ---- access
 
-CONTRAST = r'''
-const light = text => { const [r, g, b] = text.map(each => { const c = each / 255; return c <= 0.04045 ? c / 12.92 : ((c + 0.055) / 1.055) ** 2.4; });
-  return 0.2126 * r + 0.7152 * g + 0.0722 * b; };
-const colour = text => { const canvas = document.createElement('canvas').getContext('2d', { willReadFrequently: true });
-  canvas.fillStyle = text; canvas.fillRect(0, 0, 1, 1); return [...canvas.getImageData(0, 0, 1, 1).data]; };
-const behind = node => { for (let at = node; at; at = at.parentElement) { const [r, g, b, a] = colour(getComputedStyle(at).backgroundColor);
-  if (a === 255) return [r, g, b]; } return colour(getComputedStyle(document.body).backgroundColor).slice(0, 3); };
-const bad = [];
-for (const node of document.querySelectorAll('body *')) {
-  const own = [...node.childNodes].some(each => each.nodeType === 3 && each.textContent.trim());
-  if (!own || !node.checkVisibility() || node.matches('option, .slot, .choice, [aria-disabled=true], :disabled')) continue;
-  const [r, g, b, a] = colour(getComputedStyle(node).color);
-  if (a < 255) continue;
-  const pair = [light([r, g, b]), light(behind(node))].sort((x, y) => y - x), ratio = (pair[0] + 0.05) / (pair[1] + 0.05);
-  if (ratio < 4.5) bad.push([node.tagName, node.className, node.textContent.slice(0, 30), ratio.toFixed(2)]);
-}
-return bad;
-'''
-
-
-def names_and_colours(name):
-    """What a screen reader is given has names, and text stands out from what is behind it, in light and dark."""
-    tree = page.devtools('Accessibility.getFullAXTree')['nodes']
-    nameless = [node['role']['value'] for node in tree if not node['ignored'] and node['role']['value'] in
-                ('button', 'textbox', 'combobox', 'link', 'DateTime', 'Date', 'InputTime', 'dialog', 'alertdialog', 'group', 'region', 'navigation')
-                and not re.search(r'\w', node.get('name', {}).get('value') or '')]
-    check(f'{name}: all has a name', nameless == [], nameless)
-    for scheme in ('light', 'dark'):
-        page.devtools('Emulation.setEmulatedMedia', features=[{'name': 'prefers-color-scheme', 'value': scheme}])
-        time.sleep(0.1)
-        bad = page.run(CONTRAST)
-        check(f'{name}: text stands out, {scheme}', bad == [], bad)
-        if scheme == 'dark':
-            page.picture_of(f'dark-{name}')
-    page.devtools('Emulation.setEmulatedMedia', features=[])
-
-
 def access():
     """A screen reader's tree, colours, and the order of Tab; axe-core isn't there to be asked."""
     show(f'#{DAY}', again=True)
     page.there('a day', booking('room-a', '09:30'))
     page.click(slot('room-a', '11:00'))
-    names_and_colours('day')
+    names_and_colours(page, 'day')
     tree = page.devtools('Accessibility.getFullAXTree')['nodes']
     names = [node['name']['value'] for node in tree if not node['ignored'] and node['role']['value'] == 'button' and node.get('name')]
     for wanted in ('Room A, floor 1, 09:30–10:30, Planning, Booked', 'Room A, floor 1, 10:30 free', 'Room C, floor 3, 15:10–15:30, Tea, Booked, not final yet'):
@@ -274,12 +299,12 @@ def access():
     check('the grid is one stop', reached.count('grid') == 1, reached)
     page.click(booking('room-a', '09:30'))
     page.until('a box', '#box', 'Planning')
-    names_and_colours('box')
+    names_and_colours(page, 'box')
     page.click('#box [data-box=close]')
     page.click('#clear')
     show(f'#{DAY}/find/room-a')
     page.until('free rooms', '#found', 'Room B')
-    names_and_colours('find')
+    names_and_colours(page, 'find')
 
 
 # ---- the door
@@ -314,7 +339,7 @@ def a_door():
     check('a word to be read from five metres', size > 0.3, size)
     check('all of it fits', page.run('return document.documentElement.scrollHeight <= innerHeight && document.documentElement.scrollWidth <= innerWidth'))
     page.picture_of('door-taken')
-    names_and_colours('door')
+    names_and_colours(page, 'door')
     page.open(f'{page.bare}/door.html#attic')
     page.until('a room that is not there', '#until', 'does not know the room')
     page.open(f'{page.bare}/door.html#')
@@ -343,7 +368,7 @@ page = Page(int(free) + 1, os.path.join(folder, 'profile-views'), url, pictures)
 try:
     office.serve()
     page.sign_in()
-    for step in (a_free_room, a_week, the_address, clocks, hours_to_scale, printing, a_phone, access, a_door):
+    for step in (a_free_room, a_week, labels, evenings, the_address, clocks, hours_to_scale, printing, a_phone, access, a_door):
         step()
     check('nothing in the console of the browser', not [line for line in page.log() if 'Failed to load resource' not in line], page.log())
 except (RuntimeError, OSError) as error:

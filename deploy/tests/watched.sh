@@ -1,8 +1,8 @@
 # What is told of an office, and its copies at a second place. Read by deploy.sh, and run by offices.sh, whose functions and variables are
 # used here.
 
-# told NAME WANTED: what the hook got at a round of watching, and nothing else
-told() {
+# round_tells NAME WANTED: what the hook got at a round of watching, and nothing else
+round_tells() {
     : > "$folder/told"
     "$office" watch west > "$folder/said" 2>&1
     is "$1" "$(cat -- "$folder/told")" "$2"
@@ -13,29 +13,29 @@ carried() { echo "$(date +%s) $([ -z "$1" ] && echo 0 || echo 1) https://east.ex
 
 told_once() {
     local dead="trouble: REPLICA at port $port DOES NOT ANSWER" peer='PEER https://east.example:8442: failed: east.example'
-    told 'what is wrong is told' "rooms west: $dead
+    round_tells 'what is wrong is told' "rooms west: $dead
 $dead"
-    told 'once' ''
+    round_tells 'once' ''
     serve_at "$ROOMS_STATE/west/rooms.db" "$port"
-    told 'and when it is well' "rooms west: well again: ${dead#*: }
+    round_tells 'and when it is well' "rooms west: well again: ${dead#*: }
 well again: ${dead#*: }"
-    told 'once too' ''
+    round_tells 'once too' ''
     echo "PEERS=('https://east.example:8442 $folder/options')" >> "$ROOMS_ETC/west.conf"
     carried 'failed: east.example was silent; what was carried before stays'
-    told 'a peer' "rooms west: trouble: $peer was silent
+    round_tells 'a peer' "rooms west: trouble: $peer was silent
 trouble: $peer was silent"
     carried 'failed: east.example refused the password (401); what was carried before stays'
-    told 'another fault of it' "rooms west: trouble: $peer refused the password (401)
+    round_tells 'another fault of it' "rooms west: trouble: $peer refused the password (401)
 trouble: $peer refused the password (401)"
     carried 'failed: east.example was silent; what was carried before stays'
-    told 'the first again, which was told' ''
+    round_tells 'the first again, which was told' ''
     carried ''
-    told 'it is met' "rooms west: well again: ${peer%%: *}
+    round_tells 'it is met' "rooms west: well again: ${peer%%: *}
 well again: ${peer%%: *}"
     carried 'failed: east.example was silent; what was carried before stays'
-    ROOMS_AFTER=100 told 'what may pass' ''
+    ROOMS_AFTER=100 round_tells 'what may pass' ''
     carried ''
-    told 'has passed' ''
+    round_tells 'has passed' ''
 }
 
 other_ways() {

@@ -89,9 +89,9 @@ COUNTS = (
 )
 
 
-# The most words: of each of these documents, and of those that stand at the top and in docs/ together.
+# The most words: of each of these documents, and of those that stand at the top and in docs/ together, but for CHANGELOG.md, which grows.
 MOST_WORDS = {'docs/DECISIONS.md': 6500, 'docs/PERFORMANCE.md': 6500, 'docs/PROMISES.md': 6500}
-MOST_IN_ALL = 34_000
+MOST_IN_ALL = 36_000
 
 
 def number(word):
@@ -148,7 +148,7 @@ class Counted:
 
     def words(self):
         """The documents aren't longer than somebody reads."""
-        lengths = {it: len(text_of(it).split()) for it in FILES if re.fullmatch(r'(?:docs/)?\w+\.md', it)}
+        lengths = {it: len(text_of(it).split()) for it in FILES if re.fullmatch(r'(?:docs/)?\w+\.md', it) and it != 'CHANGELOG.md'}
         for document, most in MOST_WORDS.items():
             self.same(f'{document}: {lengths[document]} words, at most {most}', lengths[document] <= most, True)
         total = sum(lengths.values())

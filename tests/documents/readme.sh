@@ -1,6 +1,6 @@
 # The commands of README.md from 'Two offices' to 'Over HTTP', typed in in order in a folder of their own: each prints what stands behind `#`
 # beside it and below it; and those of docs/OPERATING.md (tests/documents/documents.py); what
-# documents link to, name and count is there (tests/documents/counted.py). ./test sources this file; the functions of tests/lib.sh and tests/http/http.sh and the variables of ./test are used here.
+# documents link to, name and count is there (tests/documents/counted.py). tests/part sources this file; the functions of tests/lib.sh and tests/http/http.sh and the variables of tests/part are used here.
 
 # typed FOLDER COMMAND WANTED: the command of the document prints this; another port takes the place of 8080, and what serves goes on behind
 typed() {

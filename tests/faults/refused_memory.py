@@ -10,7 +10,8 @@ its end; a database of the first schema is moved up, with each fifth allocation;
 allocation of each refused. SERVED is that of the tests of the crate mr_web_tests, one of which serves requests over lists: each of its allocations
 is refused. ASKED is that of the tests of the crate mr_sql_tests, three of which ask the same scripts of replicas over lists and over databases in
 memory, and move databases up: each allocation of each command is refused. After a refusal everything is as before, and what was asked is done when
-it is asked again. A process that ends otherwise is reported. The last line counts.
+it is asked again. A process that ends otherwise is reported. The last line counts. What would be asked of the program, or of SERVED and ASKED, is left out
+where that is `-`.
 """
 
 import itertools
@@ -374,19 +375,22 @@ def main():
         print('skipped: memory that is refused (no C compiler)')
         return
     programs = {Lists: program, Databases: program, Servers: program, Requests: small, Commands: asked}
-    tried = {}
+    programs, tried = {kind: it for kind, it in programs.items() if it != '-'}, {}
     for kind, its_program in programs.items():
         os.makedirs(f'{folder}/{kind.__name__}', exist_ok=True)
         tried[kind] = kind(os.path.abspath(its_program), empty(f'{folder}/{kind.__name__}'))
     scripts = {os.path.basename(script): plain_script.lines_in(script) for script in scripts}
-    for name, lines in scripts.items():
-        for kind in (Lists, Databases):
-            tried[kind].script(name, lines)
-    start_of_server(tried[Databases])
-    tried[Databases].moved_up()
-    served(tried[Servers])
-    tried[Requests].requests()
-    tried[Commands].scripts(list(scripts.values()))
+    if program != '-':
+        for name, lines in scripts.items():
+            for kind in (Lists, Databases):
+                tried[kind].script(name, lines)
+        start_of_server(tried[Databases])
+        tried[Databases].moved_up()
+        served(tried[Servers])
+    if small != '-':
+        tried[Requests].requests()
+    if asked != '-':
+        tried[Commands].scripts(list(scripts.values()))
     counts = [f'{kind.__name__.lower()} {it.allocations} allocations, {it.refused} refused, {it.late} done and not told, {it.wrong} wrong'
               for kind, it in tried.items()]
     print('; '.join(counts))

@@ -16,8 +16,8 @@ def compiler():
 
 
 def built(source, folder):
-    """The library that this file beside here is compiled to."""
-    library = f'{folder}/{source[:-2]}.so'
+    """The library that this file is compiled to, by its path from here."""
+    library = f'{folder}/{os.path.basename(source)[:-2]}.so'
     source = os.path.join(os.path.dirname(os.path.abspath(__file__)), source)
     subprocess.run([compiler(), '-shared', '-fPIC', '-O1', '-o', library, source], check=True)
     return library

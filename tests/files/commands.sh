@@ -1,5 +1,5 @@
 # What a replica in a database replies to batches from other hands, worked by hand, and scripts whose lines are commands on
-# databases. ./test sources this file; the functions of tests/lib.sh and the variables of ./test are used here.
+# databases. tests/part sources this file; the functions of tests/lib.sh and the variables of tests/part are used here.
 
 # blank SERVER PRIMARY: $database is a replica that knows nothing
 blank() {
@@ -381,7 +381,7 @@ on_databases() {
 
 run_commands() {
     local script seed
-    mkdir "$scratch/commands"
+    mkdir -p "$scratch/commands"
     run_repeats
     run_isolated
     run_forged

@@ -1,6 +1,6 @@
 # Rows that contradict each other: the stock sqlite3 turned a number in a database, and each command that would change it, exchange it or
 # serve it is refused; where `meta` and `vector` contradict each other, each question is, too.
-# ./test sources this file; the functions of tests/lib.sh and tests/files/commands.sh and the variables of ./test are used here.
+# tests/part sources this file; the functions of tests/lib.sh and tests/files/commands.sh and the variables of tests/part are used here.
 
 # turned NAME SQL: the stock sqlite3 ran this text in a database with five writes: three bookings, one of which is taken back by the
 # fourth write, and a request that found no free slot
@@ -56,6 +56,7 @@ numbers_contradict() {
 }
 
 run_contradicting() {
+    mkdir -p "$scratch/commands"
     if ! command -v sqlite3 > /dev/null; then
         echo 'skipped: rows that contradict each other (no sqlite3)'
         return

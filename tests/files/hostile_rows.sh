@@ -1,5 +1,5 @@
-# Batches at the edges of what is a batch, worked by hand, each brought to a replica that knows nothing. ./test sources this file; the
-# functions of tests/lib.sh and tests/files/commands.sh and the variables of ./test are used here.
+# Batches at the edges of what is a batch, worked by hand, each brought to a replica that knows nothing. tests/part sources this file; the
+# functions of tests/lib.sh and tests/files/commands.sh and the variables of tests/part are used here.
 
 slot='oak 30 1995-12-18 09:00'
 

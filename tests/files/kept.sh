@@ -1,5 +1,5 @@
 # A database of the first schema that is kept, with batches and a position of the first version of the exchange text, and what it must show
-# once the program has moved it up. ./test sources this file; the functions of tests/lib.sh and tests/http/http.sh and the variables of ./test are
+# once the program has moved it up. tests/part sources this file; the functions of tests/lib.sh and tests/http/http.sh and the variables of tests/part are
 # used here. tests/files/kept/make.py made the files, once, with a program of the first schema; the store's log beside the database had no rows
 # and isn't kept.
 
@@ -53,14 +53,20 @@ run_kept_served() {
     served 'the lines of the kept database' 200 200 200 200 200 409 409 200 200
 }
 
-# it is moved up with the first command, and shows what it showed before; it goes on to receive, undo and execute again as it did
-run_kept() {
-    local database=$scratch/kept/first.sqlite file
+# what the kept database has to show, in the present version
+kept_files() {
+    local file
     mkdir -p "$scratch/kept"
-    cp -- tests/files/kept/first.sqlite "$database"
     for file in replies after position batch; do
         in_present_version "tests/files/kept/first.$file" > "$scratch/kept/$file"
     done
+}
+
+# it is moved up with the first command, and shows what it showed before; it goes on to receive, undo and execute again as it did
+run_kept() {
+    local database=$scratch/kept/first.sqlite
+    kept_files
+    cp -- tests/files/kept/first.sqlite "$database"
     shows "$database" "$scratch/kept/replies"
     expect_line 'kept: a batch for a position' 0 "wrote $(wc -c < tests/files/kept/first.batch) bytes" \
         export "$database" tests/files/kept/first.position "$scratch/kept/made" 100000

@@ -1,5 +1,5 @@
 # Databases of the first schema, which the program moves up to the second one when it opens them: their rows, what is cancelled then, and what
-# isn't moved. ./test sources this file; the functions of tests/lib.sh and tests/hostile/hostile.sh and the variables of ./test are used here.
+# isn't moved. tests/part sources this file; the functions of tests/lib.sh and tests/hostile/hostile.sh and the variables of tests/part are used here.
 # What is wanted of the kept database (tests/files/kept.sh) is worked by hand.
 
 y60=$(printf 'y%.0s' $(seq 60))
@@ -82,6 +82,7 @@ first_command() {
 }
 
 run_moved_commands() {
+    local port=$((ROOMS_PORTS + PORTS_OF_PART - 1))
     first_command 0 ok add-room @ new
     first_command 1 'refused 8 RoomThere' add-room @ unused
     first_command 0 '7-7 T 2099-12-31 09:00-10:00' book @ oak 60 2099-12-31 09:00 New
@@ -92,7 +93,7 @@ run_moved_commands() {
     first_command 0 'dropped 6' truncate @ 6
     first_command 0 'took 2 writes 3 commits' import @ tests/files/kept/first.next
     first_command 0 "wrote $(wc -c < tests/files/kept/first.batch) bytes" export @ tests/files/kept/first.position "$scratch/kept/made" 100000
-    first_command 0 'serving 127.0.0.1:20322' serve @ 20322 0
+    first_command 0 "serving 127.0.0.1:$port" serve @ "$port" 0
     first_tables client
     cp -- tests/files/kept/first.sqlite "$scratch/kept/server.db"
     printf 'pulled 0 writes 0 commits\npushed 0 writes 0 commits\n' > "$scratch/kept/lines"

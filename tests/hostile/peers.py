@@ -5,7 +5,8 @@
 
 `exchange` with a peer whose reply to a pull ends after each of its bytes, with one that breaks the connection after each byte of each
 of its replies, with one whose reply is none, and with one that knows the first exchange text alone; a submission to a served database
-by clients that go away at once. What was taken stays; what was answered is there. The last line counts.
+by clients that go away at once. What was taken stays; what was answered is there. And the three requests of an exchange are those of the
+formats, byte by byte, at addresses of each kind. The last line counts.
 """
 
 import os
@@ -31,9 +32,10 @@ def head(length, status=b'200 OK'):
 class Peer:
     """Answers each connection by the path that is asked for, until nobody comes any more."""
 
-    def __init__(self, pull, position=head(len(POSITION)) + POSITION, push=head(len(NONE)) + NONE, reset=None):
+    def __init__(self, pull, position=head(len(POSITION)) + POSITION, push=head(len(NONE)) + NONE, reset=None, at=('127.0.0.1', 0)):
         self.replies = {b'/pull': pull, b'/position': position, b'/push': push}
-        self.reset, self.listener = reset, socket.create_server(('127.0.0.1', 0))
+        family = socket.AF_INET6 if ':' in at[0] else socket.AF_INET
+        self.asked, self.reset, self.listener = [], reset, socket.create_server(at, family=family)
         self.port = self.listener.getsockname()[1]
         self.thread = threading.Thread(target=self.serve, daemon=True)
         self.thread.start()
@@ -52,6 +54,7 @@ class Peer:
                 return
             with peer:
                 asked = read_request(peer)
+                self.asked.append(asked)
                 path = asked.split(b' ')[1] if b' ' in asked else b''
                 peer.sendall(self.replies.get(path, b''))
                 if path == self.reset:
@@ -155,6 +158,28 @@ class Tried:
         self.told(f'a peer that reads no position of the second version: {printed}', printed == (b'peer answered 400\n', 1))
         old.end()
 
+    def requests(self):
+        """What is sent, at an address of each kind: its host is named as the address writes it, in small letters, with a port that isn't 80."""
+        for at, address, host in ((('127.0.0.1', 0), '127.0.0.1:{}/', '127.0.0.1:{}'), (('127.0.0.1', 0), 'LocalHost:{}', 'localhost:{}'),
+                                  (('127.7.8.9', 80), '127.7.8.9', '127.7.8.9'), (('::1', 0), '[::1]:{}/', '[::1]:{}')):
+            empty(self.folder)
+            done(self.program, 'init', self.file, 9, 1)
+            batch, position, own = b'mr2 1 1\nE\n', b'mp2 1 1\nK 0\nE\n', b'mp2 9 1\nK 0\nE\n'
+            try:
+                peer = Peer(head(len(batch)) + batch, head(len(position)) + position, at=at)
+            except OSError as error:
+                print(f'skipped: requests to http://{address.format("PORT")} ({error.strerror})')
+                continue
+            url, named = f'http://{address.format(peer.port)}', host.format(peer.port).encode()
+            printed = call(self.program, 'exchange', self.file, url)
+            peer.end()
+            self.told(f'an exchange with {url}: {printed}', printed == (b'pulled 0 writes 0 commits\npushed 0 writes 0 commits\n', 0))
+            handed = b'mr2 9 1\nE\n'
+            self.told(f'what it sent to {url}: {peer.asked}', peer.asked == [
+                b'POST /pull HTTP/1.1\r\nHost: %s\r\nContent-Length: %d\r\nConnection: close\r\n\r\n' % (named, len(own)) + own,
+                b'GET /position HTTP/1.1\r\nHost: %s\r\nConnection: close\r\n\r\n' % named,
+                b'POST /push HTTP/1.1\r\nHost: %s\r\nContent-Length: %d\r\nConnection: close\r\n\r\n' % (named, len(handed)) + handed])
+
     def leaving_clients(self):
         """A whole submission whose client goes away at once is booked; half of one isn't."""
         body = b'{"day":"1995-12-18","length":60,"room":"oak","start":"13:30","title":"Budget Meeting"}'
@@ -185,6 +210,7 @@ def main():
     tried.broken_connections()
     tried.bad_peers()
     tried.first_peers()
+    tried.requests()
     tried.leaving_clients()
     print(f'{tried.passed} passed, {tried.failed} failed')
     sys.exit(1 if tried.failed else 0)

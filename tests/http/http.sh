@@ -1,11 +1,11 @@
-# What is asked of the program over HTTP: a served database, and databases that exchange. ./test sources
-# this file; the functions of tests/lib.sh and the variables of ./test are used here.
+# What is asked of the program over HTTP: a served database, and databases that exchange. tests/part sources
+# this file; the functions of tests/lib.sh and the variables of tests/part are used here.
 
 # serve DB COUNT: a process that serves so many connections, at a port that it could have
 serve() {
     local try
     for try in 1 2 3 4 5 6 7 8; do
-        port=$((20000 + RANDOM % 12000))
+        port=$((ROOMS_PORTS + RANDOM % (PORTS_OF_PART - 10)))
         : > "$scratch/served"
         "$program" serve "$1" "$port" "$2" > "$scratch/served" 2> "$scratch/err" < /dev/null &
         server=$!
@@ -95,7 +95,8 @@ run_served() {
     printf '%s' "$sheet" > "$scratch/wanted"
     expect 'the sheet of what was served' 0 "$scratch/wanted" sheet "$folder/a.db" oak 1995-12-18
     expect_line 'serving where no database is' 1 'refused 26 NotAReplica' serve "$folder/none.db" 20000 1
-    expect_line 'serving nobody' 0 'serving 127.0.0.1:20321' serve "$folder/a.db" 20321 0
+    port=$((ROOMS_PORTS + PORTS_OF_PART - 1))
+    expect_line 'serving nobody' 0 "serving 127.0.0.1:$port" serve "$folder/a.db" "$port" 0
     expect_line 'a port that is none' 2 'bad command line' serve "$folder/a.db" 0 1
     # where another process has the port, nothing is printed that says it is served
     expect_line 'init of what finds its port taken' 0 'ok' init "$folder/taken.db" 1 1
@@ -444,6 +445,10 @@ run_http() {
     else
         echo 'skipped: a served database, cut requests, a killed server (no curl)'
     fi
+}
+
+# databases that exchange
+run_exchanging() {
     run_exchanges
     run_counted_rounds
     run_exchanged_cancels

@@ -7,6 +7,10 @@ import socket
 import subprocess
 import time
 
+# the ports that are tried: those of this part of the tests (tests/part)
+PORTS = range(int(os.environ.get('ROOMS_PORTS', 20000)),
+              int(os.environ.get('ROOMS_PORTS', 20000)) + int(os.environ.get('PORTS_OF_PART', 12000)))
+
 
 def call(program, *words, **more):
     """What one command prints, and its status."""
@@ -28,7 +32,7 @@ class Served:
     def __init__(self, program, database, lines, connections=999999999, **more):
         self.lines = lines
         for _ in range(20):
-            self.port = random.SystemRandom().randint(20000, 32000)
+            self.port = random.SystemRandom().choice(PORTS)
             with open(lines, 'wb') as out:
                 self.process = subprocess.Popen([program, 'serve', database, str(self.port), str(connections)],
                                                 stdin=subprocess.DEVNULL, stdout=out, stderr=subprocess.DEVNULL, **more)

@@ -139,12 +139,13 @@ class Tries:
         how = {"cwd": self.repository, "stdin": subprocess.DEVNULL, "stdout": subprocess.PIPE, "stderr": subprocess.STDOUT, "errors": "replace"}
         # (a tool starts others, and each says what is missing)
         path = f"{folder}:{os.environ['PATH']}" if folder else os.environ["PATH"]
-        ran = subprocess.run([f"{self.repository}/tools/{tool}", *words], env={**os.environ, "PATH": path, "PYTHONDONTWRITEBYTECODE": "1"}, **how)
+        ran = subprocess.run([f"{self.repository}/tools/{tool}", *words], env={**os.environ, "PATH": path, "PYTHONDONTWRITEBYTECODE": "1", "XDG_CACHE_HOME": f"{self.folder}/cache"}, **how)
         return ran.returncode, ran.stdout
 
     def clear(self):
         for crate in ("low", "high"):
             shutil.rmtree(f"{self.repository}/crates/{crate}/out", ignore_errors=True)
+        shutil.rmtree(f"{self.folder}/cache", ignore_errors=True)
 
     def all_tools(self, what, text, line):
         """Every tool with that text as `rt`, or with `rt` itself; each says that line, or none that begins so."""
@@ -156,8 +157,12 @@ class Tries:
         status, printed = self.run("prove", ["high"], folder)
         built = all(os.path.isdir(f"{self.repository}/crates/{it}/out/rlib/{it}.rlib") for it in ("low", "high"))
         self.told(f"prove, {what}", status == 0 and says(printed) and built, printed)
+        if not text:
+            self.another_clone(what)
         status, printed = self.run("edits", [], folder)
         self.told(f"edits, {what}", status == 0 and says(printed) and printed.endswith("\n2 passed, 0 failed\n"), printed)
+        if not text:
+            self.kept_edits(what)
         write(f"{self.repository}/{SAME[0]}", SAME[1])
         status, printed = self.run("edits", ["low"], folder)
         self.told(f"an edit that means the same, {what}", status == 1 and printed.endswith("\n1 passed, 1 failed\n") and "FAILED: low/the_same.edit" in printed, printed)
@@ -166,6 +171,29 @@ class Tries:
         status, printed = self.run("gate", [], folder)
         of_ci = re.search(r"^(\d+) passed, 0 failed$", printed, re.M)
         self.told(f"gate, {what}", status == 0 and says(printed) and of_ci and printed.endswith("\nedits: 2 passed, 0 failed\n"), printed)
+
+    def another_clone(self, what):
+        """Whether a clone takes the libraries that this one proved, and proves the one whose text differs, and what stands on it."""
+        own, taken = self.repository, "was proved in another clone on this machine"
+        for change, count in (("", 2), ("\n", 0)):
+            self.repository = f"{self.folder}/clone{count}"
+            shutil.copytree(own, self.repository, ignore=shutil.ignore_patterns("out"))
+            write(f"{self.repository}/crates/low/src/lib.rt", FILES["crates/low/src/lib.rt"] + change)
+            status, printed = self.run("prove", ["high"], None)
+            built = all(os.path.isdir(f"{self.repository}/crates/{it}/out/rlib/{it}.rlib") for it in ("low", "high"))
+            self.told(f"prove in another clone, {what}, {count} of two taken", status == 0 and built and printed.count(taken) == count, printed)
+            shutil.rmtree(self.repository)
+        self.repository = own
+
+    def kept_edits(self, what):
+        """Whether edits that were found refused are taken so, and tried again after a change of the crate below both, and where all are to be."""
+        taken = "refused, as an earlier run on this machine found"
+        for words, changes, count in (([], False, 2), (["--anew"], False, 0), ([], True, 0), ([], False, 2)):
+            if changes:
+                write(f"{self.repository}/crates/low/src/lib.rt", FILES["crates/low/src/lib.rt"].replace("Returns what", "Gives back what"))
+            status, printed = self.run("edits", words, None)
+            self.told(f"edits {words} again, {what}, {count} of them taken", status == 0 and printed.count(taken) == count and printed.endswith("\n2 passed, 0 failed\n"), printed)
+        write(f"{self.repository}/crates/low/src/lib.rt", FILES["crates/low/src/lib.rt"])
 
     def each_name(self):
         """Whether each name that is missing, or is something else, is told."""

@@ -1,7 +1,7 @@
 //! Whether the rows of tables agree with each other: the test of what `mr_agree` defines, part by part.
 //!
-//! It stands on `mr_tables`, whose rows it reads, and on `mr_agree`; `mr_part` tests numbers by it, and the desk of `mr_replica` whole
-//! tables. The contract is that of `do_tables_agree`. Two parts take memory: those sort small keys of rows.
+//! It stands on `mr_tables`, whose rows it reads, and on `mr_agree`; `mr_replica` and `mr_first` test whole tables
+//! by it. The contract is that of `do_tables_agree`. Two parts take memory: those sort small keys of rows.
 #![tactic(auto)]
 
 mod agreeing;

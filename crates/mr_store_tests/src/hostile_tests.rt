@@ -475,7 +475,7 @@ fn what_is_no_text_is_no_position(rt: HostRuntime) {
     same(&rt, &found, &Err(Refusal::BadPosition), b"\xff");
 }
 
-// batches whose first bad line stands behind lines that need memory, and that line
+// batches whose first bad line stands behind good ones, and that line
 static BAD_BEHIND_GOOD: [(&str, u64); 9] = [
     ("mr1 1 1\nW 1 1 1 oak 30 1995-12-18 09:00 0 Alpha\nZ\n", 3),
     (
@@ -509,7 +509,8 @@ static BAD_BEHIND_GOOD: [(&str, u64); 9] = [
     ),
 ];
 
-static BAD_COUNTS: [&str; 4] = [
+// positions whose first bad line stands behind good counts
+static BAD_BEHIND_COUNTS: [&str; 4] = [
     "mp1 9 1\nK 0\nV 1 1\nV 1 1\nE\n",
     "mp1 9 1\nK 0\nV 1 1\nV 3 1\nV 2 1\nE\n",
     "mp1 9 1\nK 0\nV 1 1\nV 2 1\nE\nE\n",
@@ -525,18 +526,16 @@ fn bad_line_of(alloc: Global, text: &str) -> Result<u64, Refusal> {
     }
 }
 
-// The same with each allocation refused: `rt try --test --fail-alloc N`.
 #[test]
-fn bad_lines_are_reported_whatever_memory_there_is(rt: HostRuntime) {
+fn bad_lines_behind_good_ones_are_reported(rt: HostRuntime) {
     for (text, line) in &BAD_BEHIND_GOOD {
         same(&rt, &bad_line_of(rt.alloc(), text), &Ok(*line), text);
     }
 }
 
-// The same with each allocation refused: `rt try --test --fail-alloc N`.
 #[test]
-fn bad_positions_are_refused_whatever_memory_there_is(rt: HostRuntime) {
-    for text in &BAD_COUNTS {
+fn bad_lines_behind_counts_are_refused(rt: HostRuntime) {
+    for text in &BAD_BEHIND_COUNTS {
         let found = read_position(rt.alloc(), text.as_bytes()).err();
         same(&rt, &found, &Some(Refusal::BadPosition), text);
     }

@@ -1,5 +1,5 @@
 //! Rows of the tables that stand for a replica, what a command changes in them, and what rows tell: writes, choices, counts, boards.
-//! It stands on `mr_replay`; all that keeps or reads tables stands above it. README.md has lines of use, and what is proved.
+//! It stands on `mr_replay` and `mr_agree`; all that keeps or reads tables stands above it. README.md has lines of use, and what is proved.
 #![tactic(auto)]
 
 ghost use Rattle.mr_tables.specs.TableLaws.{RowsAreWithin, RowsTellTheBoard};

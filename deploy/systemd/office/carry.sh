@@ -1,13 +1,5 @@
 # rooms-office carry: the courier to each peer of the settings. Read by rooms-office, whose functions and variables are used here.
 
-# An entry of PEERS is `[NAME=]URL [FILE]`: sets url and options.
-if ! declare -F split_peer > /dev/null; then
-    split_peer() {
-        read -r url options <<< "$1"
-        if [[ $url =~ ^[^=/:]+=(.*)$ ]]; then url=${BASH_REMATCH[1]}; fi
-    }
-fi
-
 # note_peer URL STATUS WORDS: how the courier fared with this peer, at once; the others' lines stay
 note_peer() {
     (

@@ -1,0 +1,19 @@
+// The fields of the request form, and what is said beside each that is at fault.
+import { byId } from './texts.js';
+
+const FIELDS = { room: 'room', day: 'wish-day', start: 'wish-start', length: 'length', choices: 'choices', title: 'title', send: 'send' };
+
+export function complain(field, ...words) {
+  byId(field + '-error').replaceChildren(...words);
+  byId(FIELDS[field]).setAttribute('aria-invalid', 'true');
+  byId(FIELDS[field]).focus();
+}
+
+export function calm() {
+  byId('request').classList.remove('refused');
+  byId('offers').replaceChildren();
+  for (const [field, id] of Object.entries(FIELDS)) {
+    byId(field + '-error').textContent = '';
+    byId(id).removeAttribute('aria-invalid');
+  }
+}

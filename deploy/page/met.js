@@ -1,0 +1,39 @@
+// Whether the offices have met: when each other office was met last, and how many requests wait to be final. The office's service
+// writes it each minute into status.json; a page shows it in one line, red from the age on that the file names.
+import { el, renew } from './texts.js';
+import { momentOf } from './office.js';
+
+const MINUTE = 60000, SILENT = 5;
+
+const timeOfText = text => typeof text === 'string' && !isNaN(Date.parse(text)) ? new Date(text) : null;
+
+/** The other offices by name, each with the later of the times at which it was called and at which it called. */
+function officesOf({ peers, callers }) {
+  const offices = new Map();
+  for (const { name, met, fault } of [...peers || [], ...callers || []]) {
+    const known = offices.get(name) || { name, met: null, fault: null }, time = timeOfText(met);
+    offices.set(name, { name, met: !known.met || (time && time > known.met) ? time || known.met : known.met, fault: known.fault || fault || null });
+  }
+  return [...offices.values()];
+}
+
+/** The line in pieces, each with whether it is red; nothing for an office alone. */
+function metWords(status, at = new Date()) {
+  if (!status) return [];
+  const offices = officesOf(status), isOlder = (time, minutes) => !time || at - time > minutes * MINUTE, made = timeOfText(status.made);
+  if (!offices.length) return [];
+  const words = offices.map(({ name, met, fault }) => {
+    const isRed = isOlder(met, status.red_minutes || 60);
+    return { isRed, words: (met ? 'Met ' + name + ' ' + momentOf(met) : 'Never met ' + name) + (isRed && fault ? ' (' + fault + ')' : '') };
+  });
+  const count = status.tentative;
+  words.push({ isRed: false, words: count === 1 ? '1 request waits to be final' : (count || 'no') + ' requests wait to be final' });
+  if (isOlder(made, SILENT)) words.unshift({ isRed: true, words: 'The office’s service has written nothing since ' + (made ? momentOf(made) : 'ever') });
+  return words;
+}
+
+export function showMet(place, status) {
+  const words = metWords(status);
+  place.hidden = !words.length;
+  renew(place, ...words.map((each, number) => el('span', { className: each.isRed ? 'red' : '' }, each.words + (number + 1 < words.length ? '. ' : '.'))));
+}

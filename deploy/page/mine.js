@@ -1,0 +1,157 @@
+// My requests: those of this browser, kept in it and nowhere else, with what became of them, day by day.
+import { byId, el, buttonOf, renew, weekday } from './texts.js';
+import { labelOf, now, page } from './office.js';
+import { askBox, showBox } from './box.js';
+import { cancelButton, troubleOf } from './cancel.js';
+import { follow } from './follow.js';
+import { sure } from './question.js';
+import { chipOf, stateOf } from './states.js';
+
+const FEW = 4;
+let mine = [];
+let underWay = null;
+const folded = new Map();   // days that were opened or shut by hand
+
+const slotText = slot => slot.day + ' ' + slot.start;
+const sameSlot = (one, other) => one.day === other.day && one.start === other.start;
+const isBooked = entry => Boolean(entry.now) && !entry.gone && entry.now.state === 'booked';
+const dayOf = entry => isBooked(entry) ? entry.now.day : entry.wish.day;
+
+// ---- the list
+
+export function readMine() {
+  try { mine = JSON.parse(localStorage.getItem('rooms.mine')) || []; } catch { mine = []; }
+  showMine();
+}
+
+/** Another tab changed the list: its entries, with those that this page holds already and the one under way. */
+export function takeMine(event) {
+  if (event.key !== 'rooms.mine') return;
+  const held = mine;
+  readMine();
+  mine = mine.map(entry => held.find(each => each.sent === entry.sent) || entry);
+  if (underWay && !mine.includes(underWay)) mine.unshift(underWay);
+  showMine();
+}
+
+export function keepMine() {
+  try { localStorage.setItem('rooms.mine', JSON.stringify(mine)); } catch { /* then they last as long as this page */ }
+  showMine();
+}
+
+/** From now on it is perhaps booked, until a reply comes. */
+export function addMine(entry) {
+  mine.unshift(entry);
+  underWay = entry;
+  keepMine();
+}
+
+export function replied() {
+  underWay = null;
+  showMine();
+}
+
+export function dropMine(...entries) {
+  mine = mine.filter(each => !entries.includes(each));
+  keepMine();
+}
+
+/** The entry of this browser's own for a request, if it has one. */
+export const mineOf = (room, id) => mine.find(entry => entry.room === room && entry.now && entry.now.id === id) || null;
+
+export async function askMine(begun) {
+  await follow(mine, begun);
+  await askBox();
+  keepMine();
+}
+
+// ---- an entry
+
+function movedText(entry) {
+  const first = entry.first, last = entry.now;
+  if (!first || !last) return null;
+  if (first.state === 'booked' && last.state === 'logged') return 'It had ' + slotText(first) + ' and lost it to an earlier request.';
+  if (last.state !== 'booked' || (first.state === 'booked' && sameSlot(first, last))) return null;
+  return first.state === 'booked' ? 'Moved from ' + slotText(first) + ' to ' + slotText(last) + '.' : 'It has found room by now.';
+}
+
+function stateOfMine(entry) {
+  if (entry === underWay) return ['On its way', 'open', ''];
+  if (!entry.now) return ['Perhaps booked', 'none', 'No reply came: look at the sheet. It is not sent again.'];
+  const state = stateOf(entry.gone ? null : entry.now, entry.withdrawn);
+  if (isBooked(entry)) state[2] = entry.now.day + ' ' + entry.now.start + '–' + entry.now.stop + '. ' + state[2];
+  return state;
+}
+
+/** A button of the list, which is found again by its key when the list is made anew. */
+function keyedButton(entry, words, name, act) {
+  const button = buttonOf(words, act, { 'aria-label': words + ': ' + entry.title });
+  button.dataset.key = name + ' ' + entry.sent;
+  return button;
+}
+
+/** What may be cancelled of it: its booking, or, while it may still get a room, the request. */
+function undoOf(entry) {
+  const isWaiting = entry.now && !entry.gone && entry.now.state === 'logged' && entry.now.mark === 'T' && !entry.withdrawn;
+  if (!isBooked(entry) && !isWaiting) return null;
+  return cancelButton(entry, isWaiting ? 'Withdraw' : 'Cancel', (words, act) => keyedButton(entry, words, 'cancel', act));
+}
+
+function itemOf(entry) {
+  const [word, kind, words] = stateOfMine(entry), moved = movedText(entry), outcome = entry.now, trouble = outcome && troubleOf(entry);
+  return el('li', {}, chipOf(word, kind), ' ', el('b', {}, entry.title), ' ',
+    el('span', {}, labelOf(entry.room) + ', asked for ' + slotText(entry.wish) + (outcome ? ', request ' + outcome.id : '') + '. ' + words),
+    moved ? el('span', { className: 'moved' }, moved) : null, trouble ? el('span', { className: 'error' }, trouble) : null,
+    el('span', { className: 'buttons' },
+      keyedButton(entry, 'Show the day', 'show', () => page.goTo({ day: dayOf(entry), room: entry.room })), undoOf(entry),
+      keyedButton(entry, 'Take off this list', 'off', () => takeOff(entry))));
+}
+
+async function takeOff(entry) {
+  const words = 'The booking stands: taken off this list, it stays booked all the same. To free the room, cancel it.';
+  const perhaps = 'Nobody knows yet whether this is booked. Take it off this list all the same?';
+  if (isBooked(entry) && !await sure(words, 'Take off this list', 'Leave it')) return;
+  if (!entry.now && !await sure(perhaps, 'Take off this list', 'Leave it')) return;
+  dropMine(entry);
+}
+
+// ---- the days
+
+/** The entries of a day, folded if there are many and it isn't shown: the latest first. */
+function dayItem(day, entries, isOpen) {
+  const lost = entries.filter(entry => entry.now && !isBooked(entry) && entry.now.state !== 'cancelled' && !entry.withdrawn).length;
+  const summary = el('summary', {}, weekday(day, 'short') + ' ' + day + ' ', el('span', { className: 'count' }, countOf(entries.length)),
+    lost ? el('span', { className: 'bad' }, ', ' + lost + ' without a room') : null);
+  const details = el('details', { open: folded.get(day) ?? isOpen, 'aria-label': day }, summary, el('ul', {}, ...entries.map(itemOf)));
+  summary.addEventListener('click', () => folded.set(day, !details.open));
+  summary.dataset.key = 'day ' + day;
+  return details;
+}
+
+const countOf = count => count === 1 ? '1 request' : count + ' requests';
+
+function daysOf(entries) {
+  const days = new Map();
+  for (const entry of entries) days.set(dayOf(entry), [...days.get(dayOf(entry)) || [], entry]);
+  return [...days].sort(([one], [other]) => one < other ? -1 : 1);
+}
+
+/** Days that are past: they go by one press. */
+function pastItems(past) {
+  if (!past.length) return [];
+  const all = past.flatMap(([, entries]) => entries);
+  const button = buttonOf('Take off all ' + all.length + ' of past days', () => dropMine(...all), {});
+  button.dataset.key = 'past';
+  return [el('p', { className: 'buttons' }, button), ...past.map(([day, entries]) => dayItem(day, entries, false))];
+}
+
+export function showMine() {
+  const held = document.activeElement && document.activeElement.dataset.key, list = byId('mine'), today = now().day;
+  const days = daysOf(mine), isFew = mine.length <= FEW, newest = mine.length ? dayOf(mine[0]) : '';
+  const coming = days.filter(([day]) => day >= today), past = days.filter(([day]) => day < today);
+  renew(list, ...(mine.length ? [] : [el('p', {}, 'None yet.')]),
+    ...coming.map(([day, entries]) => dayItem(day, entries, isFew || day === newest)), ...pastItems(past));
+  const button = [...list.querySelectorAll('[data-key]')].find(each => each.dataset.key === held && !each.disabled);
+  if (held && document.activeElement === document.body) (button || list).focus();
+  showBox();
+}
