@@ -10,6 +10,7 @@ deploy=$(cd -- "$(dirname -- "${BASH_SOURCE[0]}")/.." && pwd)
 . "$deploy/tests/rescue.sh"
 . "$deploy/tests/trips.sh"
 . "$deploy/tests/watched.sh"
+. "$deploy/tests/poor_week.sh"
 . "$deploy/tests/news.sh"
 
 # ---- texts that go with the program
@@ -356,6 +357,7 @@ deploy_courier_through_proxies() {
         "1 failed: $a/position refused the password (401); what was carried before stays, and the courier may run again"
     deploy_certificates
     deploy_idle
+    deploy_staying
     stop_serving
     is 'what it brought' "$("$program" sheet "$east" oak 1995-12-18 | tail -n 1)" '15:00-16:00 T 1-2 Budget Meeting'
 }
@@ -385,11 +387,34 @@ deploy_certificates() {
 deploy_idle() {
     local folder=$deploy_scratch far=https://localhost:$((ports + 9))
     line plain $((ports + 9)) $((ports + 3))
-    : > "$folder/line.$((ports + 9))"
     is 'an idle pair' "$(courier_says -2 "$ROOMS_ETC/east.curl" "http://127.0.0.1:$ports" "$far")" \
         '0 done: 0 writes 0 commits there, 0 writes 0 commits back'
-    until_held 5 test -s "$folder/line.$((ports + 9))"
+    until_held 5 grep -q '^[1-9]' "$folder/line.$((ports + 9))"
     is 'one connection, of less than 3,000 bytes' "$(awk '$1 > 0 { n++; sum += $1 + $2 } END { print n, sum < 3000 }' "$folder/line.$((ports + 9))")" '1 1'
+}
+
+asked_positions() { grep -c 'GET /position HTTP/1.1" 200' "$deploy_scratch/nginx/access"; }
+
+has_asked() { [ "$(asked_positions)" -ge "$1" ]; }
+
+# where it stays, one connection is for all that is asked, and few bytes go; what comes up is carried
+deploy_staying() {
+    local folder=$deploy_scratch file=$deploy_scratch/line.$((ports + 9)) before lines id
+    local -x ROOMS_EVERY=1
+    before=$(asked_positions)
+    lines=$(wc -l < "$file")
+    sed -i "s,^PEERS=.*,PEERS=('https://localhost:$((ports + 9)) $ROOMS_ETC/east.curl')," "$ROOMS_ETC/west.conf"
+    setsid "$deploy/systemd/rooms-office" carry west --stay > "$folder/staying" 2>&1 &
+    id=$!
+    held 'it goes on to ask' until_held 40 has_asked $((before + 10))
+    is 'one connection for the courier, and one is open' "$(($(wc -l < "$file") - lines))" 1
+    held 'a request at the peer' curl -s -f -d '{"room":"oak","day":"1995-12-20","start":"09:00","length":60,"title":"Stay"}' "http://127.0.0.1:$((ports + 2))/submit"
+    held 'it is carried' until_held 20 has_line "$ports/rooms/oak/days/1995-12-20" Stay
+    kill -- "-$id"
+    wait "$id" 2> /dev/null
+    # the longest connection had 2,900 bytes for its beginning, and fewer than 600 for each time that it asked
+    held 'few bytes for each' test "$(awk -v asked=$(($(asked_positions) - before)) '$1 + $2 > sum { sum = $1 + $2 } END { print (sum > 4000 && sum < 2900 + 600 * asked) }' "$file")" = 1
+    sed -i 's/^PEERS=.*/PEERS=()/' "$ROOMS_ETC/west.conf"
 }
 
 # ---- serving in stretches
