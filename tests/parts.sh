@@ -6,6 +6,7 @@ examples 10
 readme 30
 generated 10
 worlds 200
+large 90
 words 2
 rooms_script 10
 release 10
