@@ -77,7 +77,7 @@ told_of_peers() {
     is 'nothing but peers' "$(grep -v 'PEER' "$folder/told")" ''
 }
 
-week_of_offices() {
+week_on_poor_lines() {
     local port=$1 folder=$folder/week name number=0
     local -x ROOMS_ETC=$folder/etc ROOMS_STATE=$folder/state ROOMS_AFTER=0 ROOMS_CHECK=$deploy/check/rooms-check ROOMS_CALENDAR=true \
         ROOMS_SILENCE=10 ROOMS_TRIES=0 ROOMS_COURIER=$deploy/courier/rooms-courier
