@@ -322,7 +322,7 @@ def merges(t):
     for name, part in ('batch1', [0, 1, 2, 4]), ('batch2', [0, 3, 4]):
         with open(t.path(name), 'w', encoding='ascii') as it:
             it.write(''.join(lines[n] + '\n' for n in part))
-    shutil.copy(t.path('m.db'), t.path('n.db'))
+    shutil.copy(t.path('m.db'), t.path('m2.db'))
     wanted = f"""rooms: of the requests that this office made (m.db): 1 lost the room, 1 moved, 1 found a room
     2-1 East supplier lost its room oak on {DAY} at 13:00
     2-4 Waits has the room oak by now, on {DAY} at 13:30
@@ -332,7 +332,7 @@ def merges(t):
     t.same('an import that changes nothing', t.hinted('import', 'm.db', 'batch1'), (0, 'took 0 writes 0 commits\n', ''))
     t.same('an import with a cancel', t.hinted('import', 'm.db', 'batch2'), (0, 'took 1 writes 0 commits\n',
            f'rooms: of the requests that this office made (m.db): 1 cancelled\n    2-4 Waits in oak, which was on {DAY} at 13:30, was cancelled by 1-3\n'))
-    t.same('an import without hints', t.call('import', 'n.db', 'batch1'), (0, 'took 2 writes 0 commits\n', ''))
+    t.same('an import without hints', t.call('import', 'm2.db', 'batch1'), (0, 'took 2 writes 0 commits\n', ''))
     t.make('p.db', 1)
     for hour in range(24):
         t.call('book', 'p.db', 'oak', '60', '2030-03-05', f'{hour:02}:00', 'Of one')

@@ -76,7 +76,7 @@ is_met_after() { [ "$(met_at)" -gt "$1" ]; }
 # an office whose peers are silent, dripping and lying, and a good one behind them, which is met at once, and again while they go on
 three_bad_peers() {
     local first
-    local -x ROOMS_ETC=$folder/etc ROOMS_STATE=$folder/state ROOMS_COURIER=$deploy/courier/rooms-courier ROOMS_SILENCE=20 ROOMS_EVERY=1 ROOMS_TRIES=0
+    local -x ROOMS_ETC=$folder/etc ROOMS_STATE=$folder/state ROOMS_SHARE=$deploy ROOMS_COURIER=$deploy/courier/rooms-courier ROOMS_SILENCE=20 ROOMS_EVERY=1 ROOMS_TRIES=0
     mkdir -p "$ROOMS_ETC" "$ROOMS_STATE/one"
     two_of peers 3
     line silent $((ports + 6))

@@ -35,27 +35,84 @@ carry_to() {
     return "$status"
 }
 
-# Each peer has a process of its own, so that none waits for another. Until the last has been tried, the others are met again when it is time.
+# ---- a peer that has the same
+
+# stay_with URL [OPTIONS]: the peer's position is asked for again and again over one connection, which is far cheaper than a new one each
+# time, for an hour, or until it has something else than this office
+stay_with() {
+    local url=$1 options=${2-} every=${ROOMS_EVERY:-116} line position='' peer_positions asking
+    exec {peer_positions}< <(exec curl --silent --no-buffer --fail --fail-early --http1.1 --connect-timeout 10 --speed-limit 20 \
+        --speed-time "${ROOMS_SILENCE:-60}" --user-agent '' --header 'Accept:' ${options:+--config "$options"} \
+        --rate "$((3600 / every))/h" "$url/position#[1-$((3600 / every))]" 2> /dev/null)
+    asking=$!
+    while IFS= read -r -u "$peer_positions" line; do
+        position+=$line$'\n'
+        if [ "$line" != E ]; then continue; fi
+        if [ "$(own_position)" != "$(tail -n +2 <<< "${position%$'\n'}")" ]; then break; fi
+        note_peer "$url" 0 'done: 0 writes 0 commits there, 0 writes 0 commits back'
+        position=''
+    done
+    kill "$asking" 2> /dev/null
+    exec {peer_positions}<&-
+}
+
+own_position() { curl --silent --max-time 60 --retry 5 --retry-delay 1 --retry-connrefused "http://127.0.0.1:$PORT/position" | tail -n +2; }
+
+# ---- all peers
+
+# visit NUMBER URL [OPTIONS]: the courier once; then, where it is to stay and both have the same, as long as they have
+visit() {
+    local status=0
+    carry_to "$@" || status=$?
+    echo "$status" > "$state/known/status.$1"
+    if [ -n "$stay" ] && [ "$status" = 0 ]; then
+        sleep "${ROOMS_EVERY:-116}"
+        stay_with "${@:2}"
+    fi
+    return "$status"
+}
+
+# note_tried NUMBER: this peer has been tried once; after the last one what started the unit goes on
+note_tried() {
+    if [ -n "${tried[$1]-}" ]; then return; fi
+    tried[$1]=yes
+    untried=$((untried - 1))
+    if [ "$untried" = 0 ] && [ -n "$stay" ]; then
+        pause=1
+        if [ -n "${NOTIFY_SOCKET-}" ]; then systemd-notify --ready; fi
+    fi
+}
+
+# Each peer has a process of its own, so that none waits for another. Until the last has been tried, or for good where it is to stay, the
+# others are met again when it is time.
 carry() {
-    local number url options worst=0 untried=${#PEERS[@]}
-    local -a running=() ended=()
+    local number url options stay=${1-} worst=0 untried=${#PEERS[@]} pause=0.2
+    local -a running=() ended=() tried=()
+    if [ "$untried" = 0 ]; then stay=''; fi
+    if [ "$untried" = 0 ] && [ -n "${NOTIFY_SOCKET-}" ]; then systemd-notify --ready; fi
     mkdir -p -- "$state/known" || exit 1
-    while [ "$untried" != 0 ] || [ ${#running[@]} != 0 ]; do
+    rm -f -- "$state"/known/status.*
+    touch -- "$state/known/began"
+    while [ "$untried" != 0 ] || [ ${#running[@]} != 0 ] || [ -n "$stay" ]; do
         for number in "${!PEERS[@]}"; do
-            if [ "$untried" = 0 ] || [ -n "${running[number]-}" ]; then continue; fi
-            if [ -n "${ended[number]-}" ] && [ $((SECONDS - ended[number])) -lt "${ROOMS_EVERY:-120}" ]; then continue; fi
+            if [ "$untried$stay" = 0 ] || [ -n "${running[number]-}" ]; then continue; fi
+            if [ -n "${ended[number]-}" ] && [ $((SECONDS - ended[number])) -lt "${ROOMS_EVERY:-116}" ]; then continue; fi
             split_peer "${PEERS[number]}"
-            carry_to "$number" "$url" "$options" &
+            visit "$number" "$url" "$options" &
             running[number]=$!
         done
         for number in "${!running[@]}"; do
+            if [ -e "$state/known/status.$number" ]; then note_tried "$number"; fi
             if kill -0 "${running[number]}" 2> /dev/null; then continue; fi
             if ! wait "${running[number]}"; then worst=1; fi
+            note_tried "$number"
             unset 'running[number]'
-            if [ -z "${ended[number]-}" ]; then untried=$((untried - 1)); fi
             ended[number]=$SECONDS
         done
-        sleep 0.2
+        # it begins anew with other settings
+        if [ -n "$stay" ] && [ "$etc/$name.conf" -nt "$state/known/began" ]; then break; fi
+        sleep "$pause"
     done
+    if [ ${#running[@]} != 0 ]; then kill "${running[@]}"; fi
     exit "$worst"
 }
