@@ -1,30 +1,17 @@
 -- How commands end.
-use Rattle.std.proofs.Common.{◌≡◌, ap, subst, sym, ℕ, ◌≤◌, [], ◌⊎◌, inl, inr, Option, refl, arith, lit≤}
-use Rattle.std.proofs.lemmas.Bool.{cases_lt}
+use Rattle.std.proofs.Common.{◌≡◌, ap, ℕ, ◌⊎◌, inl, inr, Option, arith}
 use Rattle.std.specs.Io.KnownBytes.{Appends}
-use Rattle.std.specs.declared.string.String.{String}
-use Rattle.std.specs.declared.alloc.Global.{Global}
 use Rattle.mr_model.specs.Texts.{Text, line}
 use Rattle.mr_model.specs.Refusals.{refusal_text}
-use Rattle.mr_model.specs.Replies.{Reply, RoomAdded, OutcomeIs, Took, CommittedIs, DroppedIs, PositionIs, BatchIs, Sheet, Calendar, Errors, Refused}
+use Rattle.mr_model.specs.Replies.{Reply}
 use Rattle.mr_model.specs.Step.{Command}
 use Rattle.mr_base.specs.RefusalViews.{refusal_of}
 use Rattle.mr_base.specs.declared.refusals.Refusal.{Refusal}
 use Rattle.mr_base.specs.declared.refusals.Refusal.TheVariants as refusal
 use Rattle.mr_store.specs.declared.keeper.Keeper.{Ghosts}
-use Rattle.mr_words.specs.CommandOutput.{no_memory_line, status_of, PrintsReply}
-use Rattle.mr_words.specs.CommandTable.{Invoked, Init, Ask, Export, Import, Rehearse, Serve, Exchange, Bridge}
-use Rattle.mr_words.specs.InvocationRead.{asked_of}
-use Rattle.mr_words.specs.declared.invocations.Invocation.TheVariants as invocation
-use Rattle.mr_words.specs.declared.invocations.Task.{Task}
-use Rattle.mr_words.specs.declared.invocations.Task.TheVariants as task
-use Rattle.mr_words.specs.declared.invocations.WordFault.{WordFault}
-use Rattle.mr_words.specs.declared.invocations.WordFault.TheVariants as faults
-use Rattle.mr_tasks.specs.Rehearsed.{bad_words_line}
-use Rattle.mr_tasks.specs.CommandEffects.{TellsFault, TellsLength, TellsWritten}
-use Rattle.mr_tasks.specs.Tasks.{IsCommandFor, IsReceive, IsBatchFor, IsOfDatabase, TellsUnopened, EndsAsking, EndsAskingEither, EndsAs, EndsExchangeAt, EndsRehearsal, IsAnswered, IsOpened, OnlyReads, TellsTo, file_for}
-use Rattle.mr_net.specs.Hosts.{IsPeer}
-use Rattle.mr_net.specs.Printed.{StopsWithText, IsStopText, EndsExchange, EndsServing, TellsBadAddress}
+use Rattle.mr_words.specs.CommandOutput.{no_memory_line}
+use Rattle.mr_tasks.specs.CommandEffects.{TellsFault}
+use Rattle.mr_tasks.specs.Tasks.{IsOfDatabase, TellsUnopened, EndsAsking, IsAnswered, IsOpened, OnlyReads}
 
 -- why a keeper could not be opened, as a refusal of the definitions
 of_database : (e : Refusal) → (e ≡ refusal.OutOfMemory) ⊎ ((e ≡ refusal.Store) ⊎ (e ≡ refusal.NotAReplica)) → IsOfDatabase (refusal_of e)

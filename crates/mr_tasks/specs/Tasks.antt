@@ -13,9 +13,6 @@ use Rattle.mr_store.specs.declared.keeper.Keeper.{Ghosts}
 use Rattle.mr_store.specs.KeeperCalls.{IsSettled}
 use Rattle.mr_service.specs.Asked.{local_of}
 use Rattle.mr_words.specs.CommandOutput.{PrintsReply, ok_line}
-use Rattle.mr_net.specs.Hosts.{IsPeer}
-use Rattle.mr_net.specs.Printed.{EndsExchange, EndsServing, TellsBadAddress}
-use Rattle.mr_words.specs.CommandTable.{Invoked, Init, Ask, Export, Import, Rehearse, Serve, Exchange, Bridge}
 use Rattle.mr_words.specs.declared.invocations.Task.{Task}
 use Rattle.mr_words.specs.declared.invocations.Task.TheVariants as task
 use Rattle.mr_tasks.specs.Rehearsed.{Rehearses, StopsRehearsing}
