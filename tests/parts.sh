@@ -43,8 +43,9 @@ deploy_texts 60
 front 90
 courier 20
 news 120
-poor_lines 60
-offices 60
+poor_lines 120
+poor_week 100
+offices 90
 proxy 60
 page 150
 '

@@ -726,6 +726,7 @@ run_deploy() {
     run_courier
     run_news
     run_poor_lines
+    run_poor_week
     run_offices
     run_proxy
     run_page

@@ -157,5 +157,4 @@ deploy_made_offices() {
     rescued_offices "$ports"
     trips "$ports"
     watched_offices "$ports"
-    week_on_poor_lines "$ports"
 }

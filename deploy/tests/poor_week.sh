@@ -1,6 +1,6 @@
 # A week of four offices: west, the primary, meets east over a line that breaks again and again, and far over a slow one on which packets are
-# lost; hut has no line, and a stick goes there and back; another peer of west is silent. All book the same hours. Read by deploy.sh, and run by
-# offices.sh, whose functions and variables are used here.
+# lost; hut has no line, and a stick goes there and back; another peer of west is silent. All book the same hours. Read by deploy.sh, whose
+# functions and variables are used here.
 
 week_offices='west east far hut'
 
@@ -84,7 +84,8 @@ week_on_poor_lines() {
     mkdir -p "$ROOMS_ETC" "$ROOMS_STATE"
     for name in $week_offices; do
         number=$((number + 1))
-        held "the office $name" "$office" make "$name" "$number" 1 $((port + number - 1)) $((port + 9000 + number)) oak elm
+        # no proxy runs: its ports are those of the lines, which come later
+        held "the office $name" "$office" make "$name" "$number" 1 $((port + number - 1)) $((port + number + 3)) oak elm
         sed -i 's/^STRETCH=.*/STRETCH=600/' "$ROOMS_ETC/$name.conf"
         "$office" serve "$name" > "$folder/$name.log" 2>&1 &
         serving+=($!)
@@ -103,4 +104,17 @@ week_on_poor_lines() {
     for name in east far hut; do is "$name shows what west shows" "$(calendars_of "$name")" "$(calendars_of west)"; done
     is 'each meeting is there, with or without a room' "$(calendars_of west | grep -c ' of ')" 40
     told_of_peers
+}
+
+run_poor_week() {
+    local folder office=$deploy/systemd/rooms-office
+    deploy_begin
+    if missing 'a week on poor lines' curl flock perl python3; then return; fi
+    folder=$deploy_scratch/poor_week
+    local -x ROOMS_SHARE=$folder/share ROOMS_CALENDARS=$folder/calendars ROOMS_USER='' ROOMS_PROGRAM
+    ROOMS_PROGRAM=$(readlink -f -- "$program")
+    mkdir -p "$ROOMS_SHARE" "$ROOMS_CALENDARS"
+    cp -r "$deploy/page" "$deploy/front" "$deploy/news" "$deploy/proxy/office.conf.in" "$deploy/systemd/office.settings.in" "$deploy/systemd/page_rooms.pl" \
+        "$ROOMS_SHARE"
+    week_on_poor_lines "$ports"
 }
