@@ -6,6 +6,7 @@ examples 10
 readme 30
 generated 10
 worlds 200
+large 90
 words 2
 rooms_script 10
 release 10
@@ -39,14 +40,14 @@ http 60
 exchanging 30
 other_build 20
 deploy_texts 60
-front 60
+front 90
 courier 20
 news 120
 poor_lines 120
 poor_week 100
 offices 90
 proxy 60
-page 120
+page 150
 '
 # how many ports each part has for itself, of those from FIRST_PORT to 20000; from there on worlds has its own
 FIRST_PORT=10000

@@ -45,9 +45,9 @@ def told_by(file):
 
 def row_alone(text, row):
     """The text of a file of rows, with this row and the declarations of the file that it names, and so on, alone; None where it has no such row."""
-    words_in = lambda text: set(re.findall(r"[\w'-]+", text))
-    # (what is indented goes on with the block above)
-    head, *blocks = re.split(r"\n\n+(?! )", text)
+    words_in = lambda text: set(re.findall(r"[\w'-]+", re.sub(r"^ *--.*", "", text, flags=re.M)))
+    # (what is indented goes on with the block above, and what is a comment alone isn't needed)
+    head, *blocks = (it for it in re.split(r"\n\n+(?! )", text) if words_in(it))
     # those that declare no name, such as records, all stay
     names = {found[1] if (found := DECLARED.search(it)) else at: it for at, it in enumerate(blocks)}
     if row not in names:

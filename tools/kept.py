@@ -9,8 +9,11 @@ import hashlib
 import os
 import stat
 import tempfile
+import time
 
 TOOLS = os.path.dirname(os.path.realpath(__file__))
+# an entry that no run took for so many seconds goes
+LONGEST = 60 * 24 * 3600
 # the tools whose bytes a verdict rests on
 OWN = ("edits", "definitions.py", "kept.py", "lanes.py", "plain.py", "toolchain.py")
 
@@ -38,6 +41,14 @@ class Kept:
     def __init__(self, is_anew=False):
         self.is_anew, self.at = is_anew, cache()
         self.tools = [bytes_of(f"{TOOLS}/{it}") for it in OWN]
+        self.drop_old()
+
+    def drop_old(self):
+        for it in os.scandir(self.at) if self.at else ():
+            # (another run may drop it too)
+            with contextlib.suppress(OSError):
+                if it.stat().st_mtime < time.time() - LONGEST:
+                    os.remove(it.path)
 
     def key(self, crate, file, stamp):
         """The sum of what a verdict on the edit in this file rests on, where the stamp is that of its crate."""
@@ -51,6 +62,7 @@ class Kept:
         """What refused the edit of this key in an earlier run; None where none found so."""
         if self.at and not self.is_anew:
             with contextlib.suppress(OSError, UnicodeDecodeError):
+                os.utime(f"{self.at}/{key}")
                 with open(f"{self.at}/{key}", encoding="utf-8") as it:
                     # (a text that is whole ends so)
                     word, _, text = it.read().partition(": ")

@@ -1,5 +1,6 @@
 # What news.pl and status.pl have in common: the program is asked, and files are written as JSON, whole or not at all.
 use strict;
+use IO::Handle;
 
 our $program = $ENV{ROOMS_PROGRAM} || 'rooms';
 
@@ -43,7 +44,8 @@ sub put_file {
     open my $file, '>', "$path.new" or die "$path.new can't be written: $!\n";
     print $file @parts or die "$path.new can't be written: $!\n";
     chmod $mode, $file;
-    close $file or die "$path.new can't be written: $!\n";
+    $file->flush && $file->sync or die "$path.new can't be written: $!\n";
+    close $file;
     rename "$path.new", $path or die "$path can't be replaced: $!\n";
 }
 

@@ -45,9 +45,9 @@ missing() {
     return 1
 }
 
-# until_held SECONDS COMMAND..: the command ends with status 0 before long
+# until_held SECONDS COMMAND..: the command ends with status 0 before long: in so many seconds, or in five times as many on a busy machine
 until_held() {
-    local end=$((SECONDS + $1))
+    local end=$((SECONDS + 5 * $1))
     shift
     until "$@" > /dev/null 2>&1; do
         if [ "$SECONDS" -ge "$end" ]; then return 1; fi

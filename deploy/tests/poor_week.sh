@@ -37,7 +37,7 @@ meet() {
 stick() { "$office" pack "$1" "$2" "$folder/stick" && "$office" unpack "$3" "$folder/stick"; }
 
 # the hut's file is on its way while the others meet
-poor_days() {
+week() {
     local day asked=0
     for day in 1 2 3 4 5; do
         all_book
@@ -77,7 +77,7 @@ told_of_peers() {
     is 'nothing but peers' "$(grep -v 'PEER' "$folder/told")" ''
 }
 
-poor_week_of_offices() {
+week_on_poor_lines() {
     local port=$1 folder=$folder/week name number=0
     local -x ROOMS_ETC=$folder/etc ROOMS_STATE=$folder/state ROOMS_AFTER=0 ROOMS_CHECK=$deploy/check/rooms-check ROOMS_CALENDAR=true \
         ROOMS_SILENCE=10 ROOMS_TRIES=0 ROOMS_COURIER=$deploy/courier/rooms-courier
@@ -98,7 +98,7 @@ poor_week_of_offices() {
     # shellcheck disable=SC2016
     printf '#!/bin/sh\ncat >> "%s/told"\n' "$folder" > "$ROOMS_ETC/west.tell"
     chmod +x "$ROOMS_ETC/west.tell"
-    poor_days
+    week
     held 'all is everywhere' until_held 120 is_settled
     stop_serving
     for name in east far hut; do is "$name shows what west shows" "$(calendars_of "$name")" "$(calendars_of west)"; done
@@ -116,5 +116,5 @@ run_poor_week() {
     mkdir -p "$ROOMS_SHARE" "$ROOMS_CALENDARS"
     cp -r "$deploy/page" "$deploy/front" "$deploy/news" "$deploy/proxy/office.conf.in" "$deploy/systemd/office.settings.in" "$deploy/systemd/page_rooms.pl" \
         "$ROOMS_SHARE"
-    poor_week_of_offices "$ports"
+    week_on_poor_lines "$ports"
 }

@@ -23,7 +23,7 @@ OFFICE, PROGRAM, PORT = sys.argv[1], os.path.realpath(sys.argv[2]), int(sys.argv
 CHANCE = random.Random(int((sys.argv[4:] + ['1'])[0]))
 ETC, STATE, CACHE = (os.environ[name] for name in ('ROOMS_ETC', 'ROOMS_STATE', 'ROOMS_CALENDARS'))
 ROOMS, DAYS = ['oak', 'elm'], [f'2030-03-{day:02}' for day in range(4, 11)]
-REQUESTS, SECONDS = 330, 55
+REQUESTS, SECONDS = 330, 45
 SLOT = re.compile(r'^\d{4}-\d\d-\d\d \d\d:\d\d-\d\d:\d\d$')
 passed = failed = 0
 
@@ -37,9 +37,9 @@ def same(name, found, wanted):
 
 def ask(port, path, body=None):
     """A reply of 200; a pause between two stretches is waited for."""
-    for _ in range(200):
+    for _ in range(2000):
         try:
-            with urllib.request.urlopen(f'http://127.0.0.1:{port}{path}', data=body, timeout=20) as reply:
+            with urllib.request.urlopen(f'http://127.0.0.1:{port}{path}', data=body, timeout=60) as reply:
                 return reply.read()
         except urllib.error.HTTPError as it:
             return it.read()
@@ -94,7 +94,7 @@ class Office:
 
     def end(self):
         self.process.terminate()
-        self.journal = self.process.communicate(timeout=60)[0]
+        self.journal = self.process.communicate(timeout=300)[0]
 
 
 def run_week():

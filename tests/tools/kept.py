@@ -6,6 +6,7 @@ The last line is `N passed, M failed`.
 """
 import os
 import sys
+import time
 
 TOOLS = os.path.join(os.path.dirname(os.path.realpath(__file__)), "..", "..", "tools")
 sys.path.insert(0, TOOLS)
@@ -81,6 +82,12 @@ def keeps_not(folder):
     run.keep(crate, {file: "it is not proved"}, keys)
     same("a torn entry is mended", told(crate, file), "it is not proved")
     same("nothing else lies there", [it for it in os.listdir(run.at) if len(it) != 64], [])
+    old = time.time() - kept.LONGEST - 100
+    os.utime(f"{run.at}/{keys[file]}", (old, old + 200))
+    same("an entry of two months", told(crate, file), "it is not proved")
+    os.utime(f"{run.at}/{keys[file]}", (old, old))
+    same("an older one", told(crate, file), None)
+    run.keep(crate, {file: "it is not proved"}, keys)
     os.chmod(run.at, 0o777)
     same("a folder that others may write", told(crate, file), None)
     os.chmod(run.at, 0o700)

@@ -7,11 +7,11 @@ pretended_parts() {
     cat > "$1/tests/part" <<'PART'
 #!/bin/sh
 case $1 in
-    well) sleep 1; echo 'well: 3 passed, 0 failed' ;;
+    well) sleep 1000 & echo $! >> "$2/../left"; sleep 1; echo 'well: 3 passed, 0 failed' ;;
     bad) echo 'FAILED: that'; echo 'bad: 1 passed, 2 failed'; exit 1 ;;
     dies) echo 'dies: 5 passed, 0 failed'; kill -9 $$ ;;
     quiet) echo '7 passed, 0 failed' ;;
-    hangs) sleep 1000 & echo $! > "$2/../left"; echo "$4" > "$2/../port"; sleep 1000 ;;
+    hangs) sleep 1000 & echo $! >> "$2/../left"; echo "$4" > "$2/../port"; sleep 1000 ;;
 esac
 PART
     chmod +x "$1/tests/part"
@@ -42,15 +42,17 @@ run_pretended() {
 }
 
 run_side_by_side() {
-    local folder=$scratch/parts
+    local folder=$scratch/parts process
     pretended_parts "$folder"
     (run_pretended "$folder") > "$scratch/out" 2> "$scratch/err"
     told 'parts that pass, fail, die, say nothing and hang' $? 0 "$scratch/wanted"
-    for _ in $(seq 50); do
-        kill -0 "$(cat "$folder/scratch/left")" 2> /dev/null || break
-        sleep 0.1
-    done
-    if kill -0 "$(cat "$folder/scratch/left")" 2> /dev/null; then echo "a process is left" > "$scratch/left"; fi
+    while read -r process; do
+        for _ in $(seq 50); do
+            kill -0 "$process" 2> /dev/null || break
+            sleep 0.1
+        done
+        if kill -0 "$process" 2> /dev/null; then echo "$process is left" > "$scratch/left"; fi
+    done < "$folder/scratch/left"
     gone 'what a part leaves' "$scratch/left"
     gone 'the folder of a part' "$folder/scratch/well"
     printf '%s\n' "$FIRST_PORT" > "$scratch/wanted"
