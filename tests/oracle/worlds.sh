@@ -16,6 +16,6 @@ run_large() {
         echo 'skipped: a large replica (no python3)'
         return
     fi
-    PYTHONDONTWRITEBYTECODE=1 python3 tests/oracle/large.py "$program" "$quick/large" 2>&1 | tee "$scratch/large"
-    count_of 'tests/oracle/large.py' "$scratch/large"
+    PYTHONDONTWRITEBYTECODE=1 python3 tests/oracle/large.py "$program" "$quick/large" 2>&1 | tee "$scratch/out"
+    count_of 'tests/oracle/large.py' "$scratch/out"
 }
