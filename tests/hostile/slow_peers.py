@@ -27,10 +27,10 @@ TAKEN = (b'pulled 2 writes 0 commits\npushed 0 writes 0 commits\n', 0)
 
 
 class Slow(Peer):
-    """A peer that sends so many bytes of each reply, each after a pause."""
+    """A peer that sends so many bytes of each reply, some at a time, each time after a pause; and how long each of its connections was there."""
 
-    def __init__(self, pause, most):
-        self.pause, self.most = pause, most
+    def __init__(self, pause=0.0, most=999, at_once=1):
+        self.pause, self.most, self.at_once, self.waits = pause, most, at_once, []
         super().__init__(pull=head(len(BATCH)) + BATCH)
 
     def serve(self):
@@ -40,25 +40,30 @@ class Slow(Peer):
             except OSError:
                 return
             with peer:
+                start = time.monotonic()
                 try:
-                    path = read_request(peer).split(b' ')[1]
-                    for byte in self.replies[path][:self.most]:
-                        time.sleep(self.pause)
-                        peer.sendall(bytes([byte]))
-                    if self.most < len(self.replies[path]):
-                        peer.recv(1)
-                except OSError:
+                    self.answer(peer)
+                except (OSError, IndexError):
                     pass
+                self.waits.append(time.monotonic() - start)
+
+    def answer(self, peer):
+        reply = self.replies[read_request(peer).split(b' ')[1]][:self.most]
+        for at in range(0, len(reply), self.at_once):
+            time.sleep(self.pause)
+            peer.sendall(reply[at:at + self.at_once])
+        # until the other end is gone
+        peer.recv(1)
 
 
 # what a peer does, what is printed, and whether it is waited for as long as anybody is
 PEERS = {
-    'silent': ({'pause': 0, 'most': 0}, {}, FAULT, True),
-    'half a head, and then silent': ({'pause': 0, 'most': 20}, {}, FAULT, True),
-    'half a body, and then silent': ({'pause': 0, 'most': len(head(len(BATCH))) + 60}, {}, FAULT, True),
-    'a byte each ten seconds': ({'pause': 10 / 60, 'most': 999}, {}, FAULT, True),
-    'a byte each second': ({'pause': 1 / 60, 'most': 999}, {}, TAKEN, False),
-    'takes a byte each six seconds': ({'pause': 0, 'most': 999}, {'SLOW_LINE': '1'}, FAULT, True),
+    'silent': ({'most': 0}, {}, FAULT, True),
+    'half a head, and then silent': ({'most': 20}, {}, FAULT, True),
+    'half a body, and then silent': ({'most': len(head(len(BATCH))) + 60}, {}, FAULT, True),
+    'a byte each ten seconds': ({'pause': 10 / 60}, {}, FAULT, True),
+    'fifteen bytes each eighteen seconds': ({'pause': 18 / 60, 'at_once': 15}, {}, TAKEN, False),
+    'takes a byte each six seconds': ({}, {'SLOW_LINE': '1'}, FAULT, True),
 }
 
 
@@ -77,15 +82,14 @@ class Tried:
     def exchange(self, name, does, more, wanted, is_given_up):
         database = f'{self.folder}/{name.replace(" ", "_")}.db'
         done(self.program, 'init', database, 9, 1)
-        peer, start = Slow(**does), time.monotonic()
+        peer = Slow(**does)
         printed = call(self.program, 'exchange', database, f'http://127.0.0.1:{peer.port}/', env={**os.environ, 'LD_PRELOAD': self.library, **more})
-        waited = time.monotonic() - start
         peer.end()
         self.told(f'{name}: {printed}', printed == wanted)
         if is_given_up:
-            self.told(f'{name}: given up after {waited:.1f} seconds', PATIENCE - 0.1 < waited < PATIENCE + LATE)
+            self.told(f'{name}: given up after {peer.waits} seconds', len(peer.waits) == 1 and PATIENCE - 0.5 < peer.waits[0] < PATIENCE + LATE)
         else:
-            self.told(f'{name}: each reply takes less than is waited, and all of them more ({waited:.1f} seconds)', waited > PATIENCE)
+            self.told(f'{name}: three replies, each in time, and longer in all: {peer.waits}', len(peer.waits) == 3 and sum(peer.waits) > PATIENCE)
 
 
 def main():
