@@ -198,10 +198,7 @@ fn take_copy<S: Alter + Drop>(
 fn is_missing(rt: &HostRuntime, path: &str) -> bool {
     match fs::metadata(rt, path) {
         Ok(_) => false,
-        Err(error) => matches!(
-            error.kind(),
-            ErrorKind::NotFound | ErrorKind::NotADirectory
-        ),
+        Err(error) => matches!(error.kind(), ErrorKind::NotFound | ErrorKind::NotADirectory),
     }
 }
 
