@@ -16,6 +16,7 @@ import { showMet } from './met.js';
 import { askNews, status } from './news.js';
 import { openNews, showNews } from './newslist.js';
 import { dropOldSheets } from './kept.js';
+import { showErrors } from './errorlist.js';
 import { showFound } from './find.js';
 import { printDoor } from './print.js';
 import { columns, focusGrid, keepCursor, moveCursor, showGrid, watchWidth, weekShown } from './grid.js';
@@ -75,7 +76,7 @@ async function round() {
       if (number !== rounds) return;
     }
     await askMine(begun);
-    if (byId('log').open) showErrors(await askErrors(at.room));
+    if (byId('log').open) showErrors({ room: at.room, lines: await askErrors(at.room) });
   } catch (fault) {
     if (!(fault instanceof Fault)) throw fault;
     if (number !== rounds) return;
@@ -142,14 +143,8 @@ function showAlarm(read, isRead) {
   fresh: !isRead ? '' : (isLost ? 'Old: ' : '') + 'as of ' + as + (isLost ? '; asking on.' : '; asks again every half minute.') });
 }
 
-function showErrors(lines) {
-  byId('errors').replaceChildren(...lines.map(line => el('li', {}, line
-    .replace(/^([CT]) (\d+-\d+) cancel (\d+-\d+)$/, '$1 $2, a cancel that found no booking of $3')
-    .replace(/^C /, '').replace(/^T (.*)$/, '$1 (not final yet)'))));
-}
-
 function start() {
-  Object.assign(page, { show, showLists() { showMine(); showNews(); }, round, goTo });
+  Object.assign(page, { show, showLists() { showMine(); showNews(); showErrors(); }, round, goTo });
   dropOldSheets();
   readMine();
   byId('before').addEventListener('click', () => step(-1));

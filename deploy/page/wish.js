@@ -74,7 +74,7 @@ export async function askAgain(booking, slot, isWaiting) {
   report('');
   for (const [id, value] of Object.entries({ room, title, length: slot.length, 'wish-day': day })) byId(id).value = value;
   if (isWaiting) standsFor(booking);
-  page.goTo({ day, room });
+  page.goTo({ day, room, view: 'day' });
   byId('request').scrollIntoView();
   byId('title').focus({ preventScroll: true });
   await showOffers(byId('offers'), { room, day, start: slot.start, length: slot.length }, takeOffer);

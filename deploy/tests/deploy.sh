@@ -619,9 +619,9 @@ deploy_page() {
         "$program" add-room "$folder/mine.db" "$room" > /dev/null
         "$program" add-room "$folder/news.db" "$room" > /dev/null
     done
-    "$program" book "$folder/news.db" oak 90 2095-12-19 09:00 Standing > /dev/null
-    "$program" book "$folder/news.db" oak 90 2095-12-19 09:00 '<img src=x onerror="document.title=1"> & Co' > /dev/null
-    "$program" book "$folder/news.db" oak 60 2095-12-19 14:00 Afternoon > /dev/null
+    "$program" book "$folder/news.db" oak 90 2095-12-19 09:00 Planning > /dev/null
+    "$program" book "$folder/news.db" oak 90 2095-12-19 09:00 'East supplier' > /dev/null
+    "$program" book "$folder/news.db" oak 60 2095-12-19 14:00 'All hands' > /dev/null
     page_test mine.py
     proxy_news
     page_test news.py

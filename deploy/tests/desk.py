@@ -284,6 +284,17 @@ def a_refused_room():
 def an_error_log():
     page.click('#log summary')
     page.until('what found no room', '#errors', '2095-12-19 13:30-14:30 Squeezed in')
+    no_room('From the log')
+    page.click('#clear')
+    waiting = '#errors li:has(button[aria-label$=": From the log"])'
+    page.there('what is not final may be withdrawn there', waiting)
+    page.click(f'{waiting} button')
+    page.click(f'{waiting} button')
+    page.until('by two presses', '#outcome', 'Withdrawn: From the log, by request 2-')
+    page.until('and it is seen', '#errors', 'From the log (not final yet), withdrawn by 2-')
+    check('what is final may not', not page.has('#errors button'), page.text('#errors'))
+    no_room('Left behind')
+    page.click('#clear')
 
 
 def one_who_may_not_book():
@@ -347,7 +358,7 @@ def the_replica_ends():
     page.click('#send')
     page.until('a request that was not sent', '#send-error', 'Not booked')
     check('the form is as it was', page.value('#title') == 'Lost')
-    left = '#mine li:has(button[aria-label$=": Left"])'
+    left = '#mine li:has(button[aria-label$=": Left behind"])'
     page.click(f'{left} button.cancel')
     page.click(f'{left} button.cancel')
     page.until('a withdrawal that was not sent', left, 'Not withdrawn: the office is not taking requests. Nothing was sent; you may press Withdraw again')

@@ -22,7 +22,7 @@ cache = os.path.join(os.environ['ROOMS_CALENDARS'], 'west')
 told = os.path.join(cache, 'told')
 TWO = {'oak': 'Oak', 'elm': 'Elm, 2nd floor'}
 NEXT = '2095-12-21'
-EVIL = '<img src=x onerror="document.title=1"> & Co'
+LOST, EVIL = 'East supplier', '<img src=x onerror="document.title=1"> & Co'
 
 
 def moment(ago=0):
@@ -57,10 +57,10 @@ def write_news(items, **words):
 def news_of(lost):
     """What one exchange may do; `lost` is the number of the request of this office that has no room."""
     return [item(900, 'moved', 'Review', **{'from': slot_of(NEXT, '13:00', '14:00'), 'to': slot_of(NEXT, '17:00', '18:00')}),
-            item(int(lost), 'lost', EVIL, **{'from': slot_of(DAY, '09:00', '10:30')}),
-            item(901, 'lost', 'Lost for good', 'elm', mark='C', **{'from': slot_of(DAY, '11:00', '12:00')}),
-            item(902, 'found', 'Found', to=slot_of(NEXT, '08:00', '09:00')),
-            item(903, 'cancelled', 'Cancelled there', by='1-7', **{'from': slot_of(NEXT, '10:00', '11:00')}),
+            item(int(lost), 'lost', LOST, **{'from': slot_of(DAY, '09:00', '10:30')}),
+            item(901, 'lost', 'Board', 'elm', mark='C', **{'from': slot_of(DAY, '11:00', '12:00')}),
+            item(902, 'found', 'Interview', to=slot_of(NEXT, '08:00', '09:00')),
+            item(903, 'cancelled', EVIL, by='1-7', **{'from': slot_of(NEXT, '17:30', '18:30')}),
             item(904, 'cancelled', 'Cancelled here', by='2-90', **{'from': slot_of(NEXT, '11:00', '12:00')}),
             item(905, 'none', 'Refused at once', wish=slot_of(NEXT, '08:30', '09:30')),
             item(906, 'final', 'Final', mark='C', **{'from': slot_of(DAY, '16:00', '17:00'), 'to': slot_of(DAY, '16:00', '17:00')})]
@@ -69,7 +69,7 @@ def news_of(lost):
 def no_news_yet():
     page.sign_in()
     page.open(f'{page.bare}/#{DAY}')
-    page.until('without the files the page is there', '#grid', 'Standing')
+    page.until('without the files the page is there', '#grid', 'Planning')
     page.look()
     time.sleep(0.5)
     check('and has no bar', page.text('#bar') == '' and page.text('#met') == '', page.text('#bar'))
@@ -90,7 +90,7 @@ def the_list():
     check('sorted by day', days == ['Monday 2095-12-19: 2 meetings lost their room', 'Wednesday 2095-12-21: 1 meeting moved, 1 found a room after all, '
                                     '1 was cancelled by another office'], days)
     titles = page.run('return [...document.querySelectorAll("#news li b")].map(each => each.innerText)')
-    check('and by hour', titles == [EVIL, 'Lost for good', 'Found', 'Cancelled there', 'Review'], titles)
+    check('and by hour', titles == [LOST, 'Board', 'Interview', 'Review', EVIL], titles)
     check('a title is text', not page.has('#news img'))
     for words in ('It had Mon 2095-12-19 09:00–10:30, and lost it to an earlier request. It may still get a room until the offices have met',
                   'Moved from Wed 2095-12-21 13:00–14:00 to Wed 2095-12-21 17:00–18:00', 'It has a room by now: Wed 2095-12-21 08:00–09:00',
@@ -110,17 +110,17 @@ def button(words, title):
 
 
 def asking_again(lost):
-    page.click(button('Ask again', EVIL))
+    page.click(button('Ask again', LOST))
     page.until('the day of what was lost', '#sheet-title', f'Monday {DAY}')
     fields = [page.value(each) for each in ('#room', '#wish-day', '#wish-start', '#length', '#title')]
-    check('the form has its title and length', fields == ['oak', DAY, '', '90', EVIL], fields)
+    check('the form has its title and length', fields == ['oak', DAY, '', '90', LOST], fields)
     page.until('free hours of that day are offered', '#offers', 'Free in Oak: 10:30–12:00')
     page.until('and those of the other room', '#offers', 'Free in Elm, 2nd floor: 09:00–10:30')
     page.picture_of('ask-again')
     page.click('#offers button[aria-label="Ask for Elm, 2nd floor, 09:00"]')
     page.click('#send')
     page.until('an offer is booked', '#outcome', f'Elm, 2nd floor, Monday {DAY}, 09:00–10:30')
-    page.until('and what has no room is withdrawn', '#offers', f'Withdrawn: {EVIL}, by request 2-')
+    page.until('and what has no room is withdrawn', '#offers', f'Withdrawn: {LOST}, by request 2-')
     page.until('in the list, too', '#news', 'It is withdrawn')
     check('its cancel is in the log', any(line.endswith(f'cancel {lost}') for line in errors('oak')), errors('oak'))
 
@@ -132,8 +132,8 @@ def errors(room):
 
 
 def telling():
-    page.click(button('I have told them', EVIL))
-    page.gone('who was told leaves the list', '#news', EVIL)
+    page.click(button('I have told them', LOST))
+    page.gone('who was told leaves the list', '#news', LOST)
     check('a mark is there', os.listdir(told) == [news[1]['key']], os.listdir(told))
     page.until('the bar counts on', '#bar', '1 meeting lost its room, 1 moved')
     check('and the title of the window', page.run('return document.title') == '(4) West office', page.run('return document.title'))
@@ -144,15 +144,15 @@ def telling():
     page.click('#bar-open')
     shutil.move(told, told + '.away')
     page.click(button('I have told them', 'Review'))
-    page.until('a mark that could not be put', '#news', 'Not marked as told: status 409')
+    page.until('a mark that could not be put', '#news', 'Not marked as told: status 500')
     shutil.move(told + '.away', told)
     page.click('#news details:last-child > button')
     page.until('a whole day is asked about', '#question', f'All 3 of Wednesday {NEXT} were told?')
     page.click('#question button.main')
     page.gone('and told at once', '#news', 'Review')
     page.until('what is left', '#bar', '1 meeting lost its room.')
-    write_news([*news, item(901, 'final', 'Lost for good', 'elm', mark='C')])
-    page.click(button('I have told them', 'Lost for good'))
+    write_news([*news, item(901, 'final', 'Board', 'elm', mark='C')])
+    page.click(button('I have told them', 'Board'))
     check('the bar goes with the last', page.waits(lambda: page.text('#bar') == '' and page.text('#news') == ''))
     check('and the number in the title', page.run('return document.title') == 'West office', page.run('return document.title'))
 
@@ -251,14 +251,14 @@ def a_phone():
     a_bar(phone, 'on a phone')
     phone.picture_of('bar-phone')
     phone.click('#bar-open')
-    phone.until('the list on a phone', '#news', EVIL)
+    phone.until('the list on a phone', '#news', LOST)
     wide = phone.run('return document.documentElement.scrollWidth - window.innerWidth')
     check('it needs no scrolling sideways', wide <= 0, wide)
     small = phone.run('return [...document.querySelectorAll("#bar button, #news button, #news summary")].filter(each => each.checkVisibility()'
                       ' && each.getBoundingClientRect().height < 24).map(each => each.outerHTML.slice(0, 80))')
     check('what is pressed there is large enough for a finger', small == [], small)
     phone.picture_of('news-phone')
-    phone.click(button('Ask again', 'Lost for good'))
+    phone.click(button('Ask again', 'Board'))
     phone.until('asking again on a phone', '#offers', 'Free in')
     check('leads to the form', phone.run('const box = document.querySelector("#title").getBoundingClientRect(); return box.top >= 0 && box.bottom <= innerHeight'))
     phone.click('#clear')

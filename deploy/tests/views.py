@@ -68,15 +68,11 @@ def a_week():
     page.until('the week after', '#sheet-title', '2095-12-26 to 2096-01-01')
 
 
-BOXES = '''const boxOf = node => { const range = document.createRange(); range.selectNodeContents(node); return range.getBoundingClientRect(); };
-const all = [...document.querySelectorAll('.booking .words, .choice, .choice .words')].filter(each => !each.querySelector('.words'));
-const seen = node => { const own = boxOf(node), cut = node.closest('.booking, .choice').getBoundingClientRect();
-  return { left: Math.max(own.left, cut.left), right: Math.min(own.right, cut.right), top: Math.max(own.top, cut.top), bottom: Math.min(own.bottom, cut.bottom) }; };
+BOXES = '''const cut = (box, at) => ({ left: Math.max(box.left, at.left), right: Math.min(box.right, at.right), top: Math.max(box.top, at.top), bottom: Math.min(box.bottom, at.bottom) });
+const wordsOf = node => { const range = document.createRange(); range.selectNodeContents(node); return cut(range.getBoundingClientRect(), node.closest('.booking').getBoundingClientRect()); };
 const meet = (one, other) => one.left < other.right && other.left < one.right && one.top < other.bottom && other.top < one.bottom;
-const bad = [];
-all.forEach((one, place) => all.slice(place + 1).forEach(other => {
-  if (meet(seen(one), seen(other))) bad.push([one.innerText, other.innerText]); }));
-return [all.length, bad];'''
+const wishes = [...document.querySelectorAll('.choice, .clash')], words = [...document.querySelectorAll('.booking .words')];
+return [wishes.length, words.filter(each => wishes.some(wish => meet(wish.getBoundingClientRect(), wordsOf(each)))).map(each => each.innerText)];'''
 
 
 def labels():

@@ -341,7 +341,7 @@ run_strange() {
 run_kept_files() {
     local folder=$scratch/commands
     blank 1 1
-    printf 'an earlier batch\n' > "$folder/earlier"
+    printf 'mr2 1 1\nE\n' > "$folder/earlier"
     cp -- "$folder/earlier" "$folder/kept"
     printf 'mp2 9 2\nK 0\nE\n' > "$folder/position"
     expect_line 'an export for another primary' 1 'refused 16 WrongPrimary' export "$database" "$folder/position" "$folder/kept" 10

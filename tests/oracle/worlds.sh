@@ -6,8 +6,8 @@ run_worlds() {
         echo 'skipped: generated worlds (no python3)'
         return
     fi
-    PYTHONDONTWRITEBYTECODE=1 python3 tests/oracle/worlds/run.py "$program" "$quick/worlds" 100000 2>&1 | tee "$scratch/worlds"
-    count_of 'tests/oracle/worlds' "$scratch/worlds"
+    PYTHONDONTWRITEBYTECODE=1 python3 tests/oracle/worlds/run.py "$program" "$quick/worlds" 100000 2>&1 | tee "$scratch/out"
+    count_of 'tests/oracle/worlds' "$scratch/out"
 }
 
 # a replica with more than 12,000 writes, as a script and on databases: nothing is refused for want of memory at such a size
@@ -16,6 +16,6 @@ run_large() {
         echo 'skipped: a large replica (no python3)'
         return
     fi
-    PYTHONDONTWRITEBYTECODE=1 python3 tests/oracle/large.py "$program" "$quick/large" 2>&1 | tee "$scratch/large"
-    count_of 'tests/oracle/large.py' "$scratch/large"
+    PYTHONDONTWRITEBYTECODE=1 python3 tests/oracle/large.py "$program" "$quick/large" 2>&1 | tee "$scratch/out"
+    count_of 'tests/oracle/large.py' "$scratch/out"
 }

@@ -42,7 +42,7 @@ run_pretended() {
 }
 
 run_side_by_side() {
-    local folder=$scratch/parts process
+    local folder=$scratch/parts process words
     pretended_parts "$folder"
     (run_pretended "$folder") > "$scratch/out" 2> "$scratch/err"
     told 'parts that pass, fail, die, say nothing and hang' $? 0 "$scratch/wanted"
@@ -58,4 +58,9 @@ run_side_by_side() {
     printf '%s\n' "$FIRST_PORT" > "$scratch/wanted"
     cp -- "$folder/scratch/port" "$scratch/out"
     told 'the longest begins first' 0 0 "$scratch/wanted"
+    for words in nothing 'program nothing'; do
+        # shellcheck disable=SC2086
+        ./test $words > "$scratch/out" 2> "$scratch/err" < /dev/null
+        told "test $words" $? 2 "$scratch/empty"
+    done
 }
