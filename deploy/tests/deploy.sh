@@ -443,9 +443,9 @@ deploy_stretches() {
         -d '{"room":"oak","day":"1995-12-19","start":"09:00","length":60,"title":"Rota"}' "http://127.0.0.1:$((ports + 2))/submit"
     is 'an office is not served twice' "$("$office" serve west 2>&1)" 'rooms-office: west is served already'
     held 'the courier of east' "$office" carry east
-    held 'west commits between two stretches' until_held 30 has_line "$ports/rooms/oak/requests/2-1" '"mark":"C"'
+    held 'west commits between two stretches' until_held 30 has_line "$ports/rooms/oak/requests/2-2" '"mark":"C"'
     held 'the courier of east again' "$office" carry east
-    held 'a calendar is written between two stretches' until_held 30 grep -q '^UID:2-1@west' "$ROOMS_CALENDARS/west/oak.ics"
+    held 'a calendar is written between two stretches' until_held 30 grep -q '^UID:2-2@west' "$ROOMS_CALENDARS/west/oak.ics"
     through 'a calendar' 200 readers /oak.ics
     is 'it says what it is' "$(sed -n 's/^content-type: *//Ip' "$deploy_scratch/head" | tr -d '\r')" 'text/calendar; charset=utf-8'
     body 'the file as it was written' "$(cat "$ROOMS_CALENDARS/west/oak.ics")"
@@ -454,7 +454,7 @@ deploy_stretches() {
     held 'the calling office knows whom it met' until_held 10 grep -q '"peers":\[{"name":"west","met":"20[^"]*","fault":null}\],"callers":\[' "$ROOMS_CALENDARS/east/status.json"
     through 'how the office stands to the others' 200 readers /status.json
     through 'the news of the office' 200 readers /news.json
-    held 'the commit comes to east' until_held 30 has_line "$((ports + 2))/rooms/oak/requests/2-1" '"mark":"C"'
+    held 'the commit comes to east' until_held 30 has_line "$((ports + 2))/rooms/oak/requests/2-2" '"mark":"C"'
     held 'a copy while it is served' "$office" backup east
     line=$("$deploy/check/rooms-check" east)
     is 'the check of a served office' "$? ${line%%,*}" '0 well: replica 2 has 4 requests'
@@ -465,7 +465,7 @@ deploy_stretches() {
     held 'a copy while nothing serves' "$office" backup east
     line=$(find "$ROOMS_STATE/east/backups" -name rooms.db | sort | tail -n 1)
     is 'the copy is read' "$("$program" sheet "$line" oak 1995-12-19 2>&1 | tail -n 1)" \
-        '09:00-10:00 C 2-1 Rota'
+        '09:00-10:00 C 2-2 Rota'
     is 'no connection was cut' "$(grep -c fault "$deploy_scratch/west.log" "$deploy_scratch/east.log" | tr '\n' ' ')" \
         "$deploy_scratch/west.log:0 $deploy_scratch/east.log:0 "
 }
