@@ -105,7 +105,7 @@ deploy_offices() {
     is 'a list that is not there' "$("$deploy/systemd/rooms-office" user desk west.conf <<< desk 2>&1)" \
         "rooms-office: no list is named 'west.conf'"
     sed -i "s,/var/cache/rooms,$ROOMS_CALENDARS,g; s,/var/log/nginx,$deploy_scratch," "$ROOMS_ETC"/*.nginx
-    mkdir -p "$ROOMS_CALENDARS"/{west,east}/{told,callers}
+    mkdir -p "$ROOMS_CALENDARS"/{west,east}/{told,callers,elsewhere}
     # a machine without IP version 6
     if [ ! -e /proc/net/if_inet6 ]; then sed -i '/listen \[::\]/d' "$ROOMS_ETC"/*.nginx; fi
     west=$ROOMS_STATE/west/rooms.db
@@ -393,7 +393,8 @@ deploy_idle() {
     is 'one connection, of less than 3,000 bytes' "$(awk '$1 > 0 { n++; sum += $1 + $2 } END { print n, sum < 3000 }' "$folder/line.$((ports + 9))")" '1 1'
 }
 
-asked_positions() { grep -c 'GET /position HTTP/1.1" 200' "$deploy_scratch/nginx/access"; }
+# how often the proxy of east was asked for something by an office
+asked_positions() { wc -l < "$ROOMS_CALENDARS/east/callers/offices"; }
 
 has_asked() { [ "$(asked_positions)" -ge "$1" ]; }
 
@@ -404,10 +405,15 @@ deploy_staying() {
     before=$(asked_positions)
     lines=$(wc -l < "$file")
     sed -i "s,^PEERS=.*,PEERS=('https://localhost:$((ports + 9)) $ROOMS_ETC/east.curl')," "$ROOMS_ETC/west.conf"
+    sed -i 's/"rooms": \[/&{ "name": "ash", "label": "Ash, 3rd floor" },/' "$ROOMS_ETC/east.rooms.json"
     setsid "$deploy/systemd/rooms-office" carry west --stay > "$folder/staying" 2>&1 &
     id=$!
     held 'it goes on to ask' until_held 40 has_asked $((before + 10))
-    is 'one connection for the courier, and one is open' "$(($(wc -l < "$file") - lines))" 1
+    is 'a connection for the courier, one for the rooms each way, and one is open' "$(($(wc -l < "$file") - lines))" 3
+    is 'the check has the rooms of the peer' "$("$deploy/check/rooms-check" west | grep -o 'at another office alone: [^;]*')" 'at another office alone: ash'
+    is 'and the check of the peer has ours' "$("$deploy/check/rooms-check" east | grep -o 'at another office alone: [^;]*')" 'at another office alone: elm'
+    through 'the rooms are not for everybody' 401 readers /exchange/rooms
+    through 'nor may everybody say theirs' 401 readers /exchange/rooms-of -T /dev/null
     held 'a request at the peer' curl -s -f -d '{"room":"oak","day":"1995-12-20","start":"09:00","length":60,"title":"Stay"}' "http://127.0.0.1:$((ports + 2))/submit"
     held 'it is carried' until_held 20 has_line "$ports/rooms/oak/days/1995-12-20" Stay
     kill -- "-$id"
@@ -415,6 +421,7 @@ deploy_staying() {
     # the longest connection had 2,900 bytes for its beginning, and fewer than 600 for each time that it asked
     held 'few bytes for each' test "$(awk -v asked=$(($(asked_positions) - before)) '$1 + $2 > sum { sum = $1 + $2 } END { print (sum > 4000 && sum < 2900 + 600 * asked) }' "$file")" = 1
     sed -i 's/^PEERS=.*/PEERS=()/' "$ROOMS_ETC/west.conf"
+    sed -i 's/{ "name": "ash", "label": "Ash, 3rd floor" },//' "$ROOMS_ETC/east.rooms.json"
 }
 
 # ---- serving in stretches
@@ -436,9 +443,9 @@ deploy_stretches() {
         -d '{"room":"oak","day":"1995-12-19","start":"09:00","length":60,"title":"Rota"}' "http://127.0.0.1:$((ports + 2))/submit"
     is 'an office is not served twice' "$("$office" serve west 2>&1)" 'rooms-office: west is served already'
     held 'the courier of east' "$office" carry east
-    held 'west commits between two stretches' until_held 30 has_line "$ports/rooms/oak/requests/2-1" '"mark":"C"'
+    held 'west commits between two stretches' until_held 30 has_line "$ports/rooms/oak/requests/2-2" '"mark":"C"'
     held 'the courier of east again' "$office" carry east
-    held 'a calendar is written between two stretches' until_held 30 grep -q '^UID:2-1@west' "$ROOMS_CALENDARS/west/oak.ics"
+    held 'a calendar is written between two stretches' until_held 30 grep -q '^UID:2-2@west' "$ROOMS_CALENDARS/west/oak.ics"
     through 'a calendar' 200 readers /oak.ics
     is 'it says what it is' "$(sed -n 's/^content-type: *//Ip' "$deploy_scratch/head" | tr -d '\r')" 'text/calendar; charset=utf-8'
     body 'the file as it was written' "$(cat "$ROOMS_CALENDARS/west/oak.ics")"
@@ -447,18 +454,18 @@ deploy_stretches() {
     held 'the calling office knows whom it met' until_held 10 grep -q '"peers":\[{"name":"west","met":"20[^"]*","fault":null}\],"callers":\[' "$ROOMS_CALENDARS/east/status.json"
     through 'how the office stands to the others' 200 readers /status.json
     through 'the news of the office' 200 readers /news.json
-    held 'the commit comes to east' until_held 30 has_line "$((ports + 2))/rooms/oak/requests/2-1" '"mark":"C"'
+    held 'the commit comes to east' until_held 30 has_line "$((ports + 2))/rooms/oak/requests/2-2" '"mark":"C"'
     held 'a copy while it is served' "$office" backup east
     line=$("$deploy/check/rooms-check" east)
-    is 'the check of a served office' "$? ${line%%,*}" '0 well: replica 2 has 3 requests'
-    held 'east drops what is committed' until_held 30 grep -q '^dropped 3$' "$deploy_scratch/east.log"
+    is 'the check of a served office' "$? ${line%%,*}" '0 well: replica 2 has 4 requests'
+    held 'east drops what is committed' until_held 30 grep -q '^dropped 4$' "$deploy_scratch/east.log"
     stop_serving
     line=$("$deploy/check/rooms-check" east)
     is 'the check of an office that ended' "$? ${line%%;*}" "1 trouble: REPLICA at port $((ports + 2)) DOES NOT ANSWER"
     held 'a copy while nothing serves' "$office" backup east
     line=$(find "$ROOMS_STATE/east/backups" -name rooms.db | sort | tail -n 1)
     is 'the copy is read' "$("$program" sheet "$line" oak 1995-12-19 2>&1 | tail -n 1)" \
-        '09:00-10:00 C 2-1 Rota'
+        '09:00-10:00 C 2-2 Rota'
     is 'no connection was cut' "$(grep -c fault "$deploy_scratch/west.log" "$deploy_scratch/east.log" | tr '\n' ' ')" \
         "$deploy_scratch/west.log:0 $deploy_scratch/east.log:0 "
 }

@@ -19,6 +19,18 @@ keep_known() {
     if [ -n "$server" ]; then mv -- "$1" "$state/known/$server"; else rm -f -- "$1"; fi
 }
 
+# name_rooms NUMBER URL [OPTIONS]: once an hour, and where the rooms of the page changed, the peer is given these, and its own come here: a room
+# that one office added is known to the other before anybody booked it. A peer without a proxy has none.
+name_rooms() {
+    local theirs=$state/known/rooms.$1 ours=$etc/$name.rooms.json
+    local -a ask=(curl --silent --fail --http1.1 --connect-timeout 10 --speed-limit 20 --speed-time "${ROOMS_SILENCE:-60}" --max-filesize 100000
+        ${3:+--config "$3"})
+    if [ ! -r "$ours" ] || { [ -n "$(find "$theirs" -mmin -50 2> /dev/null)" ] && [ ! "$ours" -nt "$theirs" ]; }; then return; fi
+    touch -- "$theirs"
+    "${ask[@]}" --output /dev/null --upload-file "$ours" "$2/exchange/rooms-of"
+    if "${ask[@]}" --output "$theirs.new" "$2/exchange/rooms"; then mv -- "$theirs.new" "$theirs"; else rm -f -- "$theirs.new"; fi
+}
+
 # carry_to NUMBER URL [OPTIONS]: once; what the courier printed last is the line of this peer
 carry_to() {
     local number=$1 url=$2 options=${3-} line status=1
@@ -32,6 +44,7 @@ carry_to() {
     echo "$url $line"
     note_peer "$url" "$status" "$line"
     if [ -e "$state/known/new.$number" ]; then keep_known "$state/known/new.$number"; fi
+    if [ "$status" = 0 ]; then name_rooms "$number" "$url" "$options"; fi
     return "$status"
 }
 
@@ -60,16 +73,16 @@ own_position() { curl --silent --max-time 60 --retry 5 --retry-delay 1 --retry-c
 
 # ---- all peers
 
-# visit NUMBER URL [OPTIONS]: the courier once; then, where it is to stay and both have the same, as long as they have
+# visit NUMBER URL [OPTIONS]: the courier once; then, where it is to stay, each time that one of the two has something new, until it fails
 visit() {
     local status=0
-    carry_to "$@" || status=$?
-    echo "$status" > "$state/known/status.$1"
-    if [ -n "$stay" ] && [ "$status" = 0 ]; then
+    while :; do
+        carry_to "$@" || status=$?
+        echo "$status" > "$state/known/status.$1"
+        if [ -z "$stay" ] || [ "$status" != 0 ]; then return "$status"; fi
         sleep "${ROOMS_EVERY:-116}"
         stay_with "${@:2}"
-    fi
-    return "$status"
+    done
 }
 
 # note_tried NUMBER: this peer has been tried once; after the last one what started the unit goes on
@@ -109,8 +122,8 @@ carry() {
             unset 'running[number]'
             ended[number]=$SECONDS
         done
-        # it begins anew with other settings
-        if [ -n "$stay" ] && [ "$etc/$name.conf" -nt "$state/known/began" ]; then break; fi
+        # it begins anew with other settings or rooms
+        if [ -n "$stay" ] && { [ "$etc/$name.conf" -nt "$state/known/began" ] || [ "$etc/$name.rooms.json" -nt "$state/known/began" ]; }; then break; fi
         sleep "$pause"
     done
     if [ ${#running[@]} != 0 ]; then kill "${running[@]}"; fi
