@@ -90,7 +90,7 @@ COUNTS = (
 
 
 # The most words: of each of these documents, and of those that stand at the top and in docs/ together, but for CHANGELOG.md, which grows.
-MOST_WORDS = {'docs/DECISIONS.md': 6500, 'docs/PERFORMANCE.md': 6500, 'docs/PROMISES.md': 6500}
+MOST_WORDS = {'docs/DECISIONS.md': 6500, 'docs/PERFORMANCE.md': 6500, 'docs/PROMISES.md': 6800}
 MOST_IN_ALL = 36_000
 
 
