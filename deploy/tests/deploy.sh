@@ -660,10 +660,11 @@ deploy_rooms() {
 
 # ---- the parts, each of which tests/part runs in a shell of its own
 
-# deploy_begin: a folder and ports for the part, and no office
+# deploy_begin: a folder and ports for the part, and no office; no office asks for the ports of this machine's own nginx
 deploy_begin() {
     unset ROOMS_ETC ROOMS_STATE ROOMS_SHARE ROOMS_USER ROOMS_COURIER ROOMS_CALENDAR ROOMS_CALENDARS ROOMS_PROGRAM
     deploy_scratch=$(mktemp -d "$scratch/deploy.XXXXXX")
+    export ROOMS_NGINX=$deploy_scratch/no-nginx
     nginx='' west='' east='' serving=()
     PATH=$PATH:/usr/sbin:/sbin
     free_ports
