@@ -35,5 +35,6 @@ function metWords(status, at = new Date()) {
 export function showMet(place, status) {
   const words = metWords(status);
   place.hidden = !words.length;
-  renew(place, ...words.map((each, number) => el('span', { className: each.isRed ? 'red' : '' }, each.words + (number + 1 < words.length ? '. ' : '.'))));
+  renew(place, ...words.flatMap(each => [el('span', { className: each.isRed ? 'red' : '' }, each.words + '.'), ' '])
+    .map(each => typeof each === 'string' ? document.createTextNode(each) : each));
 }

@@ -623,26 +623,7 @@ deploy_page() {
     "$program" book "$folder/news.db" oak 90 2095-12-19 09:00 'East supplier' > /dev/null
     "$program" book "$folder/news.db" oak 60 2095-12-19 14:00 'All hands' > /dev/null
     page_test mine.py
-    proxy_news
     page_test news.py
-}
-
-# the proxy's places of the news, where its configuration has none
-proxy_news() {
-    local folder=$ROOMS_CALENDARS/west
-    mkdir -p "$folder/told"
-    if grep -q '/told/' "$ROOMS_ETC/west.nginx"; then return; fi
-    sed -i "/location = \/rooms.json/i\\
-    location ~ ^/(news|status)\\.json\$ { alias $folder/\$1.json; }\\
-    location = /told/ { autoindex on; autoindex_format json; alias $folder/told/; }\\
-    location ~ \"^/told/(?<mark>[0-9-]+\\.[0-9]{10,11})\$\" {\\
-        limit_except PUT { deny all; }\\
-        auth_basic_user_file $ROOMS_ETC/west.bookers;\\
-        dav_methods PUT;\\
-        alias $folder/told/\$mark;\\
-    }" "$ROOMS_ETC/west.nginx"
-    stop_nginx
-    start_nginx
 }
 
 # deploy_rooms DB: a replica with twelve rooms and some bookings, two of them committed
