@@ -91,7 +91,7 @@ note_tried() {
     tried[$1]=yes
     untried=$((untried - 1))
     if [ "$untried" = 0 ] && [ -n "$stay" ]; then
-        pause=1
+        pause=5
         if [ -n "${NOTIFY_SOCKET-}" ]; then systemd-notify --ready; fi
     fi
 }
