@@ -31,7 +31,7 @@ class Waiting(Peer):
     """A peer that answers each request once it is told to."""
 
     def __init__(self):
-        self.asked, self.may_answer = threading.Semaphore(0), threading.Semaphore(0)
+        self.has_asked, self.may_answer = threading.Semaphore(0), threading.Semaphore(0)
         super().__init__(pull=head(len(BATCH)) + BATCH)
 
     def serve(self):
@@ -42,7 +42,7 @@ class Waiting(Peer):
                 return
             with peer:
                 read_request(peer)
-                self.asked.release()
+                self.has_asked.release()
                 self.may_answer.acquire(timeout=30)
                 try:
                     peer.sendall(self.replies[path])
@@ -88,7 +88,7 @@ class Tried:
         process = subprocess.Popen([self.program, 'exchange', database, f'http://127.0.0.1:{peer.port}/'], stdin=subprocess.DEVNULL,
                                    stdout=subprocess.PIPE, preexec_fn=os.setpgrp)
         for path in REQUESTS:
-            if not peer.asked.acquire(timeout=10):
+            if not peer.has_asked.acquire(timeout=10):
                 self.told(f'exchange, stopped by {stop}: it asks {path}', False)
                 break
             stop_and_go_on(process, stop)
