@@ -14,7 +14,7 @@ use Rattle.mr_http.specs.declared.faults.WebFault.{WebFault}
 use Rattle.mr_http.specs.declared.faults.WebFault.TheVariants as fault
 use Rattle.mr_service.specs.Worlds.{IsPositionText}
 use Rattle.mr_peer.specs.Rounds.{RunsRequest}
-use Rattle.mr_peer.specs.PeerAsking.{IsSendFault, IsAskFault, GivesBatch, GivesWritten, Wrote, OwnRefuses, ReadsOff, HandsOut, IsBatchWith, IsSomePosition, IsSomeBatch}
+use Rattle.mr_peer.specs.PeerAsking.{IsSendFault, IsAskFault, GivesBatch, GivesWritten, Wrote, OwnRefuses, ReadsOff, HandsOut, IsBatchWith}
 use Rattle.mr_peer.specs.PeerTaking.{IsOwnFault}
 
 -- a step of a command that leaves the replica as it is
@@ -116,19 +116,6 @@ reads_faults reply P (Err fault.Read) reads = reads
 reads_faults reply P (Err fault.Write) reads = reads
 reads_faults reply P (Err fault.BadReply) reads = reads
 reads_faults reply P (Err (fault.Peer n)) reads = reads
-
--- the text is that of some position
-pub some_position : {X : Type 0} (text_of : X → Text) (reply : Reply) (result : Result X WebFault)
-    → ReadsOff reply (λ x. IsPositionText reply (text_of x)) result → IfOk result (λ x. IsSomePosition (text_of x))
-some_position text_of reply (Ok x) reads = (reads.0, reads.2)
-some_position text_of reply (Err e) reads = tt
-
--- the same of a batch
-pub some_batch : {X : Type 0} (text_of : X → Text) (ending : X → Ending) (reply : Reply) (result : Result X WebFault)
-    → ReadsOff reply (λ x. IsBatchWith reply (text_of x) (ending x)) result
-    → IfOk result (λ x. IsSomeBatch (text_of x) (ending x))
-some_batch text_of ending reply (Ok x) reads = (reads.0, reads.2, reads.3)
-some_batch text_of ending reply (Err e) reads = tt
 
 pub own_asks : (e : WebFault) → IsOwnFault e → IsAskFault e
 own_asks fault.Memory is = tt

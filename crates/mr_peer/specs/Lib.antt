@@ -1,7 +1,8 @@
--- A reader of the contracts trusts PeerAsking, Exchanged, ReplyLaw, ReplyRead, PeerReplies, PeerRequests, Rounds, ExchangeSteps,
+-- A reader of the contracts trusts PeerAsking, Exchanged, OnceAsked, ReplyLaw, ReplyRead, PeerReplies, PeerRequests, Rounds, ExchangeSteps,
 -- PeerTaking and Took. The others, Seen and TookWords, serve private clauses and proofs alone.
 pub mod Exchanged
 pub mod ExchangeSteps
+pub mod OnceAsked
 pub mod PeerAsking
 pub mod PeerReplies
 pub mod PeerRequests

@@ -99,14 +99,6 @@ HandsOut a command P (Err _) = ⊥
 abbrev pub IsBatchWith : Reply → Text → Ending → Type 0
 IsBatchWith reply text ending = (b : Batch) × (reply ≡ BatchIs b) × (text ≡ batch_text b) × (ending ≡ b.ending)
 
--- the text of some position
-abbrev pub IsSomePosition : Text → Type 0
-IsSomePosition text = (p : Position) × (text ≡ position_text p)
-
--- the text of some batch, and how it ends
-abbrev pub IsSomeBatch : Text → Ending → Type 0
-IsSomeBatch text ending = (b : Batch) × (text ≡ batch_text b) × (ending ≡ b.ending)
-
 -- the text of this replica's position
 abbrev pub HandsPosition : Replica → Result (Vec ℕ Global) WebFault → Replica → Type 0
 HandsPosition a result b = (b ≡ a) × HandsOut a AskPosition (λ text. text.items ≡ position_text (position_of a)) result

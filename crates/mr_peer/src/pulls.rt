@@ -4,8 +4,9 @@ ghost use Rattle.mr_model.specs.Step.{AskPosition};
 ghost use Rattle.mr_http.specs.Reading.{OnceRead};
 ghost use Rattle.mr_service.specs.Asked.{reply_of};
 ghost use Rattle.mr_service.specs.Worlds.{IsPositionText};
-ghost use Rattle.mr_peer.specs.PeerAsking.{AsksPull, HandsPosition, IsAskFault, IsSomePosition, ReadsOff, SendsPull};
+ghost use Rattle.mr_peer.specs.PeerAsking.{AsksPull, HandsPosition, IsAskFault, ReadsOff};
 ghost use Rattle.mr_peer.specs.Exchanged.{IsExchanged};
+ghost use Rattle.mr_peer.specs.OnceAsked.{HandsPositionOnce, IsBodyOf, ReceivesOnce, SendsPosition, TellsBatch, TellsCounts};
 ghost use Rattle.mr_peer.specs.ReplyRead.{ReadsOneReply};
 ghost use Rattle.mr_peer.specs.PeerReplies as spec;
 ghost use Rattle.mr_peer.specs.PeerRequests.{is_host};
@@ -34,7 +35,7 @@ pub fn pull_ask<K: Keeper, W: Write>(
     requires { IsTrue (is_host host.now) }
     ensures exchanged { IsExchanged K.Keeper service.old service.new result
         (AsksPull host.now (W.contents writer.old) (W.contents writer.new)) (Reaches (K.tables service.old) AskPosition) }
-    ensures sends { SendsPull host.now (W.contents writer.old) (W.contents writer.new) result }
+    ensures once { SendsPosition K.Keeper service.old service.new host.now (W.contents writer.old) (W.contents writer.new) result }
     ensures fault { IfErr result IsAskFault }
 {
     let position = own_position(alloc, service)?;
@@ -52,7 +53,7 @@ pub fn pull_ask<K: Keeper, W: Write>(
 fn own_position<K: Keeper>(alloc: Global, service: &mut Service<K>) -> Result<Vec<u8>, WebFault>
     ensures exchanged { IsExchanged K.Keeper service.old service.new result
         HandsPosition (Reaches (K.tables service.old) AskPosition) }
-    ensures text { IfOk result (λ text. IsSomePosition text.items) }
+    ensures once { HandsPositionOnce K.Keeper service.old service.new result }
     ensures fault { IfErr result IsOwnFault }
 {
     let reply = reply_to(service, Command::Local(Local::Position));
@@ -82,6 +83,7 @@ pub fn pull_take<K: Keeper, R: Read>(
 ) -> Result<(u64, u64, Ending), WebFault>
     ensures exchanged { IsExchanged K.Keeper service.old service.new result
         (TakesPulled (R.remaining reader.old)) (TakesBody (K.tables service.old)) }
+    ensures once { ReceivesOnce K.Keeper service.old service.new (IsBodyOf (R.remaining reader.old)) TellsBatch result }
     ensures tells { TellsPulled (R.remaining reader.old) result }
     ensures fault { IfErr result IsTakeFault }
     ensures leaves { IfErr result (KeepsTables K.Keeper service.old service.new) }
@@ -100,6 +102,7 @@ fn take_reply<K: Keeper, R: Read>(
     requires { buffer.old.items ≡ [] }
     ensures exchanged { IsExchanged K.Keeper service.old service.new result
         (TakesPulled (R.remaining reader.old)) (TakesBody (K.tables service.old)) }
+    ensures once { ReceivesOnce K.Keeper service.old service.new (IsBodyOf (R.remaining reader.old)) TellsBatch result }
     ensures tells { TellsPulled (R.remaining reader.old) result }
     ensures fault { IfErr result IsTakeFault }
     ensures leaves { IfErr result (KeepsTables K.Keeper service.old service.new) }
@@ -118,6 +121,7 @@ fn take_body<K: Keeper>(
     requires { IsInside (length bytes.now) replied }
     ensures exchanged { IsExchanged K.Keeper service.old service.new result
         (Takes (spec.front_body (reply_seen bytes.now replied))) (TakesBody (K.tables service.old)) }
+    ensures once { ReceivesOnce K.Keeper service.old service.new (λ taken. spec.front_body (reply_seen bytes.now replied) ≡ Ok taken) TellsBatch result }
     ensures tells { TellsTaken (spec.front_body (reply_seen bytes.now replied)) result }
     ensures fault { IfErr result IsTakeFault }
     ensures leaves { IfErr result (KeepsTables K.Keeper service.old service.new) }
@@ -133,6 +137,7 @@ fn take_batch<K: Keeper>(
 ) -> Result<(u64, u64, Ending), WebFault>
     ensures exchanged { IsExchanged K.Keeper service.old service.new result
         (Receives body.now) (TakesBody (K.tables service.old)) }
+    ensures once { ReceivesOnce K.Keeper service.old service.new (λ taken. taken ≡ body.now) TellsBatch result }
     ensures tells { TellsTaken (Ok body.now) result }
     ensures fault { IfErr result IsOwnFault }
     ensures leaves { IfErr result (KeepsTables K.Keeper service.old service.new) }
@@ -149,6 +154,7 @@ fn receive<K: Keeper>(
 ) -> Result<(u64, u64), WebFault>
     ensures exchanged { IsExchanged K.Keeper service.old service.new result
         (CountsTaken body.now) (TakesBody (K.tables service.old)) }
+    ensures once { ReceivesOnce K.Keeper service.old service.new (λ taken. taken ≡ body.now) TellsCounts result }
     ensures fault { IfErr result IsOwnFault }
     ensures leaves { IfErr result (KeepsTables K.Keeper service.old service.new) }
 {

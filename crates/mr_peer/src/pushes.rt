@@ -6,8 +6,9 @@ ghost use Rattle.mr_base.specs.Batches.{ending_seen};
 ghost use Rattle.mr_http.specs.Reading.{OnceRead};
 ghost use Rattle.mr_http.specs.declared.faults.WebFault.TheVariants.{BadReply};
 ghost use Rattle.mr_service.specs.Asked.{command_seen, reply_of};
-ghost use Rattle.mr_peer.specs.PeerAsking.{AsksPush, HandsBatch, IsAskFault, IsBatchWith, IsSomeBatch, ReadsOff, SendsPush, lacking};
+ghost use Rattle.mr_peer.specs.PeerAsking.{AsksPush, HandsBatch, IsAskFault, IsBatchWith, ReadsOff, lacking};
 ghost use Rattle.mr_peer.specs.Exchanged.{IsExchanged};
+ghost use Rattle.mr_peer.specs.OnceAsked.{HandsBatchOnce, SendsBatch};
 ghost use Rattle.mr_peer.specs.ReplyRead.{ReadsOneReply};
 ghost use Rattle.mr_peer.specs.PeerReplies.{told_took};
 ghost use Rattle.mr_peer.specs.PeerRequests.{is_host};
@@ -39,7 +40,7 @@ pub fn push_ask<K: Keeper, W: Write>(
     requires { IsTrue (is_host host.now) }
     ensures exchanged { IsExchanged K.Keeper service.old service.new result
         (AsksPush position.now host.now (W.contents writer.old) (W.contents writer.new)) (Reaches (K.tables service.old) (lacking position.now)) }
-    ensures sends { SendsPush host.now (W.contents writer.old) (W.contents writer.new) result }
+    ensures once { SendsBatch K.Keeper service.old service.new position.now host.now (W.contents writer.old) (W.contents writer.new) result }
     ensures fault { IfErr result IsAskFault }
 {
     let (text, ending) = own_batch(alloc, service, position)?;
@@ -55,7 +56,7 @@ fn own_batch<K: Keeper>(
 ) -> Result<(Vec<u8>, Ending), WebFault>
     ensures exchanged { IsExchanged K.Keeper service.old service.new result
         (HandsBatch position.now) (Reaches (K.tables service.old) (lacking position.now)) }
-    ensures text { IfOk result (λ x. IsSomeBatch x.0.items (ending_seen x.1)) }
+    ensures once { HandsBatchOnce K.Keeper service.old service.new position.now result }
     ensures fault { IfErr result IsOwnFault }
 {
     // For the prover alone: the position is within its limits.

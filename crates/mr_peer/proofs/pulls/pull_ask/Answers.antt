@@ -7,12 +7,15 @@ use Rattle.mr_model.specs.Positions.{position_of, position_text}
 use Rattle.mr_model.specs.Serving.{Reaches}
 use Rattle.mr_model.specs.Step.{AskPosition}
 use Rattle.mr_http.specs.declared.faults.WebFault.{WebFault}
-use Rattle.mr_peer.specs.PeerAsking.{Wrote, AsksPull, HandsPosition, IsAskFault, SendsPull}
+use Rattle.mr_peer.specs.PeerAsking.{Wrote, AsksPull, HandsPosition, IsAskFault}
 use Rattle.mr_peer.specs.Exchanged.{IsExchanged}
+use Rattle.mr_service.specs.Worlds.{IsPositionText}
+use Rattle.mr_peer.specs.OnceAsked.{SendsPosition}
 use Rattle.mr_peer.specs.PeerRequests.{pull_request}
 use Rattle.mr_peer.proofs.AskLemmas.{own_asks, unsent, sent_short}
 use Rattle.mr_peer.proofs.Exchanges.{onward}
 use Rattle.mr_peer.proofs.FaultLemmas.{handed_on}
+use Rattle.mr_peer.proofs.OnceLemmas.{fault_read}
 use Rattle.mr_peer.proofs.pulls.pull_ask.Goals as goal
 
 -- this replica handed out no position
@@ -65,36 +68,39 @@ returns-clause-exchanged g c =
     (Reaches (g.K.Keeper.tables old) AskPosition) c.in_ok-position.ensures.exchanged (λ L l. l)
     (λ a b h. (h.0, tt, subst W (c.as_slice.ensures.value ∙ h.1) c.in_ok-ask_full.ensures.wrote))
 
--- ---- whatever the replica is
+pub returns-in_err-position-clause-fault : goal.returns-in_err-position-clause-fault
+returns-in_err-position-clause-fault g c =
+    let e = c.in_err-position.field-0.0 in
+    handed_on IsAskFault e c.from_residual.result (own_asks e c.in_err-position.ensures.fault) c.from_residual.ensures.1
 
-pub returns-in_err-position-clause-sends : goal.returns-in_err-position-clause-sends
-returns-in_err-position-clause-sends g c =
+-- ---- what was asked, once
+
+pub returns-in_err-position-clause-once : goal.returns-in_err-position-clause-once
+returns-in_err-position-clause-once g c =
     let held = g.W.Write.contents c.args.writer.now in
+    let e = c.in_err-position.field-0.0 in
     let p = err_from_is_err_and c.from_residual.result c.from_residual.ensures.1 in
-    let P : Result (Unit {0}) WebFault → Type 0 = λ r. SendsPull c.args.host.now held held r in
-    subst P (sym (p.1 ∙ ap Err p.2)) (inr (c.in_err-position.ensures.fault, Keeps-refl held))
+    let P : Result (Unit {0}) WebFault → Type 0 = λ r. SendsPosition g.K.Keeper c.args.service.now c.own_position.new.service c.args.host.now held held r in
+    let (reply, served, reads) = c.in_err-position.ensures.once in
+    subst P (sym (p.1 ∙ ap Err p.2))
+    (reply, served, inr (fault_read (Vec ℕ Global) (Unit {0}) reply (λ v. IsPositionText reply v.items) e reads, Keeps-refl held))
 
-pub returns-in_err-ask_full-clause-sends : goal.returns-in_err-ask_full-clause-sends
-returns-in_err-ask_full-clause-sends g c =
+pub returns-in_err-ask_full-clause-once : goal.returns-in_err-ask_full-clause-once
+returns-in_err-ask_full-clause-once g c =
     let host = c.args.host.now in
     let held = g.W.Write.contents c.args.writer.now in
     let holds = g.W.Write.contents c.ask_full.new.writer in
     let e = c.in_err-ask_full.field-0.0 in
     let p = err_from_is_err_and c.from_residual-in_err-ask_full.result c.from_residual-in_err-ask_full.ensures.1 in
-    let text = c.in_ok-position.ensures.text in
     let W : Text → Type 0 = λ body. Wrote {X = Unit {0}} (pull_request host body) held holds (Err e) in
-    let P : Result (Unit {0}) WebFault → Type 0 = λ r. SendsPull host held holds r in
-    subst P (sym (p.1 ∙ ap Err p.2)) (inl (text.0, subst W (c.as_slice.ensures.value ∙ text.1) c.in_err-ask_full.ensures.wrote))
+    let P : Result (Unit {0}) WebFault → Type 0 = λ r. SendsPosition g.K.Keeper c.args.service.now c.own_position.new.service host held holds r in
+    let (reply, served, (position, is, text)) = c.in_ok-position.ensures.once in
+    subst P (sym (p.1 ∙ ap Err p.2)) (reply, served, inl (position, is, subst W (c.as_slice.ensures.value ∙ text) c.in_err-ask_full.ensures.wrote))
 
-pub returns-clause-sends : goal.returns-clause-sends
-returns-clause-sends g c =
+pub returns-clause-once : goal.returns-clause-once
+returns-clause-once g c =
     let held = g.W.Write.contents c.args.writer.now in
     let holds = g.W.Write.contents c.ask_full.new.writer in
-    let text = c.in_ok-position.ensures.text in
     let W : Text → Type 0 = λ body. Appends held holds (pull_request c.args.host.now body) in
-    inl (text.0, subst W (c.as_slice.ensures.value ∙ text.1) c.in_ok-ask_full.ensures.wrote)
-
-pub returns-in_err-position-clause-fault : goal.returns-in_err-position-clause-fault
-returns-in_err-position-clause-fault g c =
-    let e = c.in_err-position.field-0.0 in
-    handed_on IsAskFault e c.from_residual.result (own_asks e c.in_err-position.ensures.fault) c.from_residual.ensures.1
+    let (reply, served, (position, is, text)) = c.in_ok-position.ensures.once in
+    (reply, served, inl (position, is, subst W (c.as_slice.ensures.value ∙ text) c.in_ok-ask_full.ensures.wrote))

@@ -1,3 +1,6 @@
+use Rattle.std.proofs.Common.{inl, inr}
+use Rattle.mr_peer.specs.OnceAsked.{TellsCounts}
+use Rattle.mr_peer.proofs.OnceLemmas.{counts_once}
 use Rattle.std.proofs.Common.{ℕ, List, refl, sym, subst, Result}
 use Rattle.std.specs.Prelude.{IfErr}
 use Rattle.mr_model.specs.Step.{Receive, IsStep}
@@ -42,3 +45,17 @@ returns-clause-leaves g c =
     let new = c.reply_to-reply.new.service in
     subst (λ (r : Result (ℕ × ℕ) WebFault). IfErr r (KeepsTables g.K.Keeper old new)) (sym c.counts_in.ensures)
     (counts_leave g.K.Keeper old new c.reply_to-reply.result c.reply_to-reply.ensures.refused)
+
+pub returns-in_default-clause-once : goal.returns-in_default-clause-once
+returns-in_default-clause-once g c = inl (refl, refl)
+
+pub returns-clause-once : goal.returns-clause-once
+returns-clause-once g c =
+    let reply = c.reply_to-reply.result in
+    inr (
+      c.in-Ok.bytes.items,
+      reply_of reply,
+      c.reply_to-reply.ensures,
+      c.in-Ok.ensures.items,
+      subst (λ (r : Result (ℕ × ℕ) WebFault). TellsCounts (reply_of reply) r) (sym c.counts_in.ensures) (counts_once reply),
+    )

@@ -1,4 +1,4 @@
-use Rattle.std.proofs.Common.{◌≡◌, ◌∙◌, ℕ, Vec, Global, refl, sym, ap, subst}
+use Rattle.std.proofs.Common.{◌≡◌, inl, inr, ◌∙◌, ℕ, Vec, Global, refl, sym, ap, subst}
 use Rattle.mr_model.specs.Texts.{Text}
 use Rattle.mr_model.specs.Http.{lines_over_http}
 use Rattle.mr_model.specs.Positions.{position_text}
@@ -11,7 +11,7 @@ use Rattle.mr_http.specs.declared.faults.WebFault.TheVariants.{Memory}
 use Rattle.mr_service.specs.Asked.{reply_of}
 use Rattle.mr_service.specs.Served.{IsServed}
 use Rattle.mr_peer.specs.PeerAsking.{HandsBatch, IsBatchWith, lacking}
-use Rattle.mr_peer.proofs.AskLemmas.{batch_handed, batch_told, reads_faults, some_batch}
+use Rattle.mr_peer.proofs.AskLemmas.{batch_handed, batch_told, reads_faults}
 use Rattle.mr_peer.proofs.Exchanges.{of_served, untouched}
 use Rattle.mr_peer.proofs.pushes.own_batch.Goals as goal
 
@@ -36,13 +36,24 @@ returns-clause-exchanged g c =
     (batch_handed text_of (λ x. ending_seen x.1) reply position lines_over_http result c.is_within_limits.ensures c.batch_in.ensures)
     (batch_told text_of (λ x. ending_seen x.1) reply result c.batch_in.ensures) (λ t r. r)
 
-pub returns-clause-text : goal.returns-clause-text
-returns-clause-text g c =
-    let text_of : Vec ℕ Global × Ending → Text = λ x. x.0.items in
-    some_batch text_of (λ x. ending_seen x.1) (reply_of c.reply_to-reply.result) c.batch_in.result c.batch_in.ensures
-
 pub returns-clause-fault : goal.returns-clause-fault
 returns-clause-fault g c =
     let reply = reply_of c.reply_to-reply.result in
     let P : Vec ℕ Global × Ending → Type 0 = λ x. IsBatchWith reply x.0.items (ending_seen x.1) in
     reads_faults reply P c.batch_in.result c.batch_in.ensures
+
+-- ---- what was asked, once
+
+pub returns-in_default-clause-once : goal.returns-in_default-clause-once
+returns-in_default-clause-once g c = inl (refl, refl)
+
+pub returns-clause-once : goal.returns-clause-once
+returns-clause-once g c =
+    let old = c.args.service.now in
+    let new = c.reply_to-reply.new.service in
+    let reply = reply_of c.reply_to-reply.result in
+    let position = c.args.position.now in
+    let text : c.in-Ok.text.items ≡ position_text position = sym (ok_inj (position_text position) c.in-Ok.text.items c.in-Ok.ensures.exact) in
+    let P : Command → Type 0 = λ command. IsServed g.K.Keeper old new command reply in
+    let served = subst P (c.batch_for.ensures ∙ ap (λ (t : Text). BatchFor t lines_over_http) text) c.reply_to-reply.ensures in
+    inr (reply, served, c.batch_in.ensures)

@@ -15,6 +15,7 @@ use Rattle.mr_peer.specs.PeerTaking.{TakesReply}
 use Rattle.mr_peer.proofs.AskLemmas.{ask_failed, failed_as}
 use Rattle.mr_peer.proofs.Exchanges.{both, onward, reached}
 use Rattle.mr_peer.proofs.RoundEffects.{pulls_behind, body_behind}
+use Rattle.mr_peer.proofs.OnceLemmas.{position_sent}
 use Rattle.mr_peer.proofs.rounds.pull.Goals as goal
 
 -- the ask failed
@@ -68,7 +69,15 @@ returns-clause-exchanged g c =
 pub returns-in_err-pull_ask-clause-tells : goal.returns-in_err-pull_ask-clause-tells
 returns-in_err-pull_ask-clause-tells g c =
     let p = err_from_is_err_and c.from_residual.result c.from_residual.ensures.1 in
-    (Err c.in_err-pull_ask.field-0.0, c.in_err-pull_ask.ensures.sends, p.1 ∙ ap Err p.2)
+    let e = c.in_err-pull_ask.field-0.0 in
+    let held = g.W.Write.contents c.args.writer.now in
+    let holds = g.W.Write.contents c.pull_ask.new.writer in
+    let sends = position_sent g.K.Keeper c.args.service.now c.pull_ask.new.service c.args.host.now held holds (Err e) c.in_err-pull_ask.ensures.once in
+    (Err e, sends, p.1 ∙ ap Err p.2)
 
 pub returns-clause-tells : goal.returns-clause-tells
-returns-clause-tells g c = (Ok tt, c.in_ok-pull_ask.ensures.sends, c.pull_take.ensures.tells)
+returns-clause-tells g c =
+    let held = g.W.Write.contents c.args.writer.now in
+    let holds = g.W.Write.contents c.pull_ask.new.writer in
+    let sends = position_sent g.K.Keeper c.args.service.now c.pull_ask.new.service c.args.host.now held holds (Ok tt) c.in_ok-pull_ask.ensures.once in
+    (Ok tt, sends, c.pull_take.ensures.tells)

@@ -13,6 +13,7 @@ use Rattle.mr_peer.specs.PeerRequests.{push_request}
 use Rattle.mr_peer.specs.Rounds.{Pushes, TellsTook}
 use Rattle.mr_peer.proofs.AskLemmas.{ask_failed, begun, given_so}
 use Rattle.mr_peer.proofs.Exchanges.{onward}
+use Rattle.mr_peer.proofs.OnceLemmas.{batch_sent}
 use Rattle.mr_peer.proofs.rounds.push.Goals as goal
 
 -- the ask failed
@@ -78,7 +79,11 @@ returns-clause-exchanged g c =
 pub returns-in_err-ending-clause-tells : goal.returns-in_err-ending-clause-tells
 returns-in_err-ending-clause-tells g c =
     let p = err_from_is_err_and c.from_residual.result c.from_residual.ensures.1 in
-    (Err c.in_err-ending.field-0.0, c.in_err-ending.ensures.sends, p.1 ∙ ap Err p.2)
+    let e = c.in_err-ending.field-0.0 in
+    let held = g.W.Write.contents c.args.writer.now in
+    let holds = g.W.Write.contents c.push_ask.new.writer in
+    let sends = batch_sent g.K.Keeper c.args.service.now c.push_ask.new.service c.args.position.now c.args.host.now held holds (Err e) c.in_err-ending.ensures.once in
+    (Err e, sends, p.1 ∙ ap Err p.2)
 
 pub returns-in_err-writes-clause-tells : goal.returns-in_err-writes-clause-tells
 returns-in_err-writes-clause-tells g c =
@@ -86,9 +91,15 @@ returns-in_err-writes-clause-tells g c =
     let e = c.in_err-writes.field-0.0 in
     let p = err_from_is_err_and c.from_residual-in_err-writes.result c.from_residual-in_err-writes.ensures.1 in
     let T : Result (ℕ × ℕ × Ending) WebFault → Type 0 = λ r. TellsTook known (ending_seen c.in_ok-ending.ending) r in
-    (Ok c.in_ok-ending.ending, c.in_ok-ending.ensures.sends, subst T (sym (p.1 ∙ ap Err p.2)) (Err e, c.in_err-writes.ensures.tells, refl))
+    let held = g.W.Write.contents c.args.writer.now in
+    let holds = g.W.Write.contents c.push_ask.new.writer in
+    let sends = batch_sent g.K.Keeper c.args.service.now c.push_ask.new.service c.args.position.now c.args.host.now held holds (Ok c.in_ok-ending.ending) c.in_ok-ending.ensures.once in
+    (Ok c.in_ok-ending.ending, sends, subst T (sym (p.1 ∙ ap Err p.2)) (Err e, c.in_err-writes.ensures.tells, refl))
 
 pub returns-clause-tells : goal.returns-clause-tells
 returns-clause-tells g c =
     let counts : ℕ × ℕ = (c.in_ok-writes.writes, c.in_ok-writes.commits) in
-    (Ok c.in_ok-ending.ending, c.in_ok-ending.ensures.sends, (Ok counts, c.in_ok-writes.ensures.tells, (refl, refl, refl)))
+    let held = g.W.Write.contents c.args.writer.now in
+    let holds = g.W.Write.contents c.push_ask.new.writer in
+    let sends = batch_sent g.K.Keeper c.args.service.now c.push_ask.new.service c.args.position.now c.args.host.now held holds (Ok c.in_ok-ending.ending) c.in_ok-ending.ensures.once in
+    (Ok c.in_ok-ending.ending, sends, (Ok counts, c.in_ok-writes.ensures.tells, (refl, refl, refl)))
