@@ -1,7 +1,6 @@
-use Rattle.std.proofs.Common.{inl, inr}
+use Rattle.std.proofs.Common.{inl, inr, ℕ, List, refl, sym, subst, Result}
 use Rattle.mr_peer.specs.OnceAsked.{TellsCounts}
 use Rattle.mr_peer.proofs.OnceLemmas.{counts_once}
-use Rattle.std.proofs.Common.{ℕ, List, refl, sym, subst, Result}
 use Rattle.std.specs.Prelude.{IfErr}
 use Rattle.mr_model.specs.Step.{Receive, IsStep}
 use Rattle.mr_http.specs.declared.faults.WebFault.{WebFault}
