@@ -232,6 +232,24 @@ class Questions:
         self.told(f'beside an index that was left: {told}', told == (SHEET, 0))
         os.remove(self.file + '-shm')
 
+    def no_files(self):
+        """What isn't opened, since somebody would have to come to its other end, and what isn't there: below a file."""
+        self.anew()
+        pipe, device = f'{self.folder}/pipe', f'{self.folder}/device'
+        os.mkfifo(pipe)
+        os.symlink('/dev/zero', device)
+        for path, wanted in ((pipe, STORE), (device, STORE), (f'{self.file}/x', NONE)):
+            for command in ('position', 'sheet oak 1995-12-18', 'add-room ash', 'commit 1', 'truncate 1', f'bridge {self.base}'):
+                word, *more = command.split()
+                try:
+                    ran = subprocess.run([self.program, word, path, *more], stdin=subprocess.DEVNULL, stdout=subprocess.PIPE, timeout=20, check=False)
+                    told = ran.stdout, ran.returncode
+                except subprocess.TimeoutExpired:
+                    told = None
+                self.told(f'{command} of {path}: {told}', told == wanted)
+        os.remove(pipe)
+        os.remove(device)
+
     def other_files(self):
         """What a command that changes refuses, a question refuses too."""
         self.anew()
@@ -282,7 +300,7 @@ def main():
     program, folder = sys.argv[1:]
     questions = Questions(os.path.abspath(program), empty(folder))
     for kind in (questions.as_it_is, questions.not_writable, questions.full_disk, questions.at_once, questions.beside_locks, questions.beside_server,
-                 questions.beside_sqlite, questions.other_files, questions.first_schema):
+                 questions.beside_sqlite, questions.no_files, questions.other_files, questions.first_schema):
         kind()
     print(f'{questions.passed} passed, {len(questions.failed)} failed')
     sys.exit(1 if questions.failed else 0)

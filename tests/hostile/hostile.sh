@@ -37,11 +37,13 @@ run_strangers() {
 
 run_hostile_hands() {
     if ! command -v python3 > /dev/null; then
-        echo 'skipped: broken peers, slow callers (no python3)'
+        echo 'skipped: broken peers, slow callers and peers, stopped programs (no python3)'
         return
     fi
     tried 'peers and clients that break off' tests/hostile/peers.py "$program" "$quick/peers"
     tried 'callers who are silent or slow' tests/hostile/patience.py "$program" "$quick/patience"
+    tried 'peers who are silent or slow' tests/hostile/slow_peers.py "$program" "$quick/slow_peers"
+    tried 'programs with sockets that are stopped and go on' tests/hostile/continued.py "$program" "$quick/continued"
 }
 
 # where it is listened at, and callers who take no reply
@@ -64,10 +66,11 @@ run_faults() {
 
 run_failed_disk() {
     if ! command -v python3 > /dev/null; then
-        echo 'skipped: failing disks (no python3)'
+        echo 'skipped: failing disks, no descriptors (no python3)'
         return
     fi
     tried 'a served database whose disk fails' tests/faults/failed_disk.py "$program" "$quick/failed_disk"
+    tried 'a served database whose process may open no more files' tests/faults/descriptors.py "$program" "$quick/descriptors"
 }
 
 run_questions() {

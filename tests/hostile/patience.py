@@ -3,9 +3,9 @@
 
     patience.py PROGRAM FOLDER
 
-A caller has ten seconds in all to send a request, and ten to take the reply and to end the connection. So whoever waits behind one who sends
-nothing, a byte now and then, half a request, or bytes behind a whole one is answered soon after that. Each of them has a server of its own, at
-the same time. The last line counts.
+A caller has ten seconds in all to send a request, with what follows it, and ten to take the reply. So whoever waits behind one who sends
+nothing, a byte now and then, half a request, or bytes behind a whole one is answered soon after that, and behind a whole request with nothing
+behind it at once, though its connection is left open. Each of them has a server of its own, at the same time. The last line counts.
 """
 
 import os
@@ -22,6 +22,7 @@ from calls import Served, done, empty
 PATIENCE, LATE = 10, 6
 QUESTION = b'GET /position HTTP/1.1\r\n\r\n'
 LONG = b'POST /push HTTP/1.1\r\nContent-Length: 1000\r\n\r\n' + 1000 * b'x'
+NOWHERE = b'GET /nowhere HTTP/1.1\r\n\r\n'
 
 
 class Caller:
@@ -65,8 +66,10 @@ CALLERS = {
     'half a head, and then half closed': ({'at_once': b'GET /posi', 'is_half_closed': True}, b'HTTP/1.1 400 Bad Request', b'400', False),
     'half a body, and then half closed': ({'at_once': LONG[:-500], 'is_half_closed': True}, b'HTTP/1.1 400 Bad Request', b'400', False),
     'a whole request, and half closed': ({'at_once': QUESTION, 'is_half_closed': True}, b'HTTP/1.1 200 OK', b'200', False),
-    'a whole request, and left open': ({'at_once': QUESTION}, b'HTTP/1.1 200 OK', b'200', True),
-    'a whole request, and bytes behind it': ({'at_once': QUESTION, 'drips': 200 * b'x', 'pause': 0.25}, b'HTTP/1.1 200 OK', b'200', True),
+    'a whole request, and left open': ({'at_once': QUESTION}, b'HTTP/1.1 200 OK', b'200', False),
+    'a request that nobody was asked, and left open': ({'at_once': NOWHERE}, b'HTTP/1.1 404 Not Found', b'404', True),
+    'the same, sent in eight seconds': ({'drips': NOWHERE, 'pause': 8 / len(NOWHERE)}, b'HTTP/1.1 404 Not Found', b'404', True),
+    'a whole request, and bytes behind it': ({'at_once': QUESTION + b'x', 'drips': 200 * b'x', 'pause': 0.25}, b'HTTP/1.1 200 OK', b'200', True),
 }
 
 

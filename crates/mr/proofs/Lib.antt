@@ -1,9 +1,1 @@
-mod WordLaws
-mod ScriptLines
-mod CutSlots
-mod ScriptLaws
-mod RunLaws
-mod UniqueReading
-mod AskLaws
-mod DatabaseLaws
 mod EndLaws

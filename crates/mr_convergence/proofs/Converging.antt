@@ -84,7 +84,7 @@ has_counts a b ha hb h s = go (count_of a s) refl
         let low = get_below (writes_of s b.known) m x f in
         omega (arith, e, na, nb, low)
 
-commits-low : (n : ℕ) (rs : List Replica) → ((s : ℕ) (a : Replica) → find (λ x. eqb x.server s) rs ≡ Some a → length a.commits ≤ n) → length (commits_among rs) ≤ n
+pub commits-low : (n : ℕ) (rs : List Replica) → ((s : ℕ) (a : Replica) → find (λ x. eqb x.server s) rs ≡ Some a → length a.commits ≤ n) → length (commits_among rs) ≤ n
 commits-low n [] f = omega arith
 commits-low n (p ∷ rs) f = f p.server p (cond-true (eqb p.server p.server) (Some p) (find (λ x. eqb x.server p.server) rs) (eq-eqb p.server p.server refl))
 

@@ -65,7 +65,7 @@ settled_by r none =
 
 -- ---- while nothing is accepted
 
-same_tentative : (a b : Replica) → AreAlike a b → tentative b ≡ tentative a
+pub same_tentative : (a b : Replica) → AreAlike a b → tentative b ≡ tentative a
 same_tentative a b x =
     ap (λ ws. filter (λ (w : Write). not (is_among (id_of w) b.commits)) ws) (sym x.same_writes)
     ∙ ap (λ ids. filter (λ (w : Write). not (is_among (id_of w) ids)) a.known) (sym x.same_commits)
@@ -80,13 +80,13 @@ pub record IsCommitted (w : World) : Type 0 where
   pub none_tentative : tentative replica ≡ []
 
 -- then a commit commits nothing
-committed_calm : (w : World) (s : Step) → IsHonest w → IsCommitted w → IsCalm w s
+pub committed_calm : (w : World) (s : Step) → IsHonest w → IsCommitted w → IsCalm w s
 committed_calm w s h c server k r is e own = subst (λ x. tentative x ≡ []) (some_inj c.replica r (sym c.is_there ∙ ap (λ u. replica_of w u) here ∙ e)) c.none_tentative
   where
     here : c.primary ≡ server
     here = sym (found_server w c.primary c.replica c.is_there) ∙ c.is_primary ∙ one_primary w c.primary server c.replica r h c.is_there e ∙ sym own ∙ found_server w server r e
 
-committed_after : (old new : World) → IsHonest old → Kept old new → Same old new → IsCommitted old → IsCommitted new
+pub committed_after : (old new : World) → IsHonest old → Kept old new → Same old new → IsCommitted old → IsCommitted new
 committed_after old new h k same c =
     let (q, eq, x) = k.1.replicas c.primary c.replica c.is_there in
     let (all, like) = same_stays old new c.primary c.replica q h k same c.is_there eq c.knows_all in

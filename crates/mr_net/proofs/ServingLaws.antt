@@ -42,7 +42,7 @@ pub stopped : {K : Type 0} (keeper : Ghosts K) (p m q : K) (count done : ℕ) (l
     → TellsServed keeper p q count held holds status
 stopped keeper p m q count done last held between holds status before room next undone (inl told) = absurd (undone told.0)
 stopped {K} keeper p m q count done last held between holds status before room next undone (inr stops) =
-    inr (before.served, last, leads_on keeper p m q before.served last before.led next, within, behind stops)
+    inr (inl (before.served, last, leads_on keeper p m q before.served last before.led next, within, behind stops))
   where
     within : length (before.served ++ last ∷ []) ≤ count
     within = let pushed = length_push before.served last in let counted = before.counted in omega (arith, pushed, counted, room)
@@ -51,6 +51,19 @@ stopped {K} keeper p m q count done last held between holds status before room n
     behind (inl told) =
         inl (told.0, connection_lines before.served ++ told.1, ap (λ t. connection_lines before.served ++ t) told.2, Appends-trans held between holds (connection_lines before.served) told.1 before.told told.3)
     behind (inr three) = inr three
+
+-- the next connection can't be taken
+pub not_taken : {K : Type 0} (keeper : Ghosts K) (p m q : K) (count done : ℕ) (held between holds : Option Text) (status : ℕ) → SoMany keeper p m done held between
+    → done < count → q ≡ m → status ≡ 3 → TellsServed keeper p q count held holds status
+not_taken keeper p m q count done held between holds status before room same failed =
+    inr (inr (
+      failed,
+      before.served,
+      between,
+      subst (λ k. AreConnections keeper p before.served k) (sym same) before.led,
+      subst (λ n. n < count) (sym before.counted) room,
+      before.told,
+    ))
 
 -- behind the line of the port
 pub served_behind : {K : Type 0} (keeper : Ghosts K) (p q : K) (port count : ℕ) (held between holds : Option Text) (status : ℕ) → Appends held between (serving_line port)
@@ -64,7 +77,8 @@ pub ends_behind : {K : Type 0} (keeper : Ghosts K) (p q : K) (port count : ℕ) 
     → TellsServed keeper p q count between holds status → EndsServing port count held holds status
 ends_behind keeper p q port count held between holds status first (inl told) =
     inl (told.0, told.1, told.3, Appends-trans held between holds (serving_line port) (connection_lines told.1) first told.4)
-ends_behind keeper p q port count held between holds status first (inr stops) = inr (inr (behind stops.4))
+ends_behind keeper p q port count held between holds status first (inr (inr late)) = inr (inr (inr late.0))
+ends_behind keeper p q port count held between holds status first (inr (inl stops)) = inr (inr (behind stops.4))
   where
     fewer : length stops.0 < count
     fewer = let pushed = length_push stops.0 stops.1 in let within = stops.3 in omega (arith, pushed, within)

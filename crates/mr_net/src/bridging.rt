@@ -19,6 +19,7 @@ use crate::databases::{released, remembered};
 use crate::hosts::Host;
 use crate::printing::{exchange_with, say_no_network};
 use crate::taking::{take_pull, take_push};
+use crate::timed::Timed;
 use crate::ways::{Peer, Round, Way};
 use mr_base::{Ending, Position};
 use mr_http::WebFault;
@@ -76,18 +77,26 @@ impl<C: Keeper, S: Keeper> Neighbour<'_, C, S> {
         ensures server { IsServer S.Keeper Pull self.old.server self.new.server }
     {
         let stream = self.connect()?;
-        position_ask(self.alloc, self.host.as_str(), &mut &stream)?;
+        let mut writer = Timed::with_peer(self.rt, &stream);
+        position_ask(self.alloc, self.host.as_str(), &mut writer)?;
         self.serve(&stream)?;
-        position_take(self.alloc, &mut &stream)
+        position_take(self.alloc, &mut Timed::with_peer(self.rt, &stream))
     }
 
     fn pull(&mut self) -> Result<Round, WebFault>
         ensures { RunsBridged C.Keeper S.Keeper Pull (self.old.client, self.old.server) result (self.new.client, self.new.server) }
     {
         let stream = self.connect()?;
-        ask_pull(self.alloc, &mut self.client, self.host.as_str(), &stream)?;
+        let mut writer = Timed::with_peer(self.rt, &stream);
+        ask_pull(
+            self.alloc,
+            &mut self.client,
+            self.host.as_str(),
+            &mut writer,
+        )?;
         self.serve(&stream)?;
-        take_pull(self.alloc, &mut self.client, &mut &stream)
+        let mut reader = Timed::with_peer(self.rt, &stream);
+        take_pull(self.alloc, &mut self.client, &mut reader)
     }
 
     fn push(&mut self) -> Result<Round, WebFault>
@@ -96,9 +105,10 @@ impl<C: Keeper, S: Keeper> Neighbour<'_, C, S> {
         let position = self.position()?;
         let stream = self.connect()?;
         let host = self.host.as_str();
-        let ending = ask_push(self.alloc, &mut self.client, &position, host, &stream)?;
+        let mut writer = Timed::with_peer(self.rt, &stream);
+        let ending = ask_push(self.alloc, &mut self.client, &position, host, &mut writer)?;
         self.serve(&stream)?;
-        take_push(self.alloc, ending, &mut &stream)
+        take_push(self.alloc, ending, &mut Timed::with_peer(self.rt, &stream))
     }
 }
 
@@ -107,14 +117,13 @@ fn ask_pull<C: Keeper>(
     alloc: Global,
     client: &mut Service<C>,
     host: &str,
-    stream: &TcpStream,
+    writer: &mut Timed<'_>,
 ) -> Result<(), WebFault>
     requires { IsTrue (is_host host.now) }
     ensures { (held holds : Option Text)
         × IsExchanged C.Keeper client.old client.new result (AsksPull host.now held holds) (Reaches (C.tables client.old) AskPosition) }
 {
-    let mut writer = stream;
-    pull_ask(alloc, client, host, &mut writer)
+    pull_ask(alloc, client, host, writer)
 }
 
 /// Hands over what a server at this position lacks, over this connection.
@@ -123,14 +132,13 @@ fn ask_push<C: Keeper>(
     client: &mut Service<C>,
     position: &Position,
     host: &str,
-    stream: &TcpStream,
+    writer: &mut Timed<'_>,
 ) -> Result<Ending, WebFault>
     requires { IsTrue (is_host host.now) }
     ensures { (held holds : Option Text)
         × IsExchanged C.Keeper client.old client.new result (AsksPush position.now host.now held holds) (Reaches (C.tables client.old) (lacking position.now)) }
 {
-    let mut writer = stream;
-    push_ask(alloc, client, position, host, &mut writer)
+    push_ask(alloc, client, position, host, writer)
 }
 
 /// The other end of this connection. Whoever else connects meanwhile is sent away.

@@ -15,6 +15,7 @@ use crate::databases::{released, remembered};
 use crate::hosts::Host;
 use crate::printing::exchange_with;
 use crate::taking::{take_pull, take_push};
+use crate::timed::Timed;
 use crate::ways::{Peer, Round, Way};
 use mr_base::{Ending, Position};
 use mr_http::{WebFault, send};
@@ -59,8 +60,8 @@ impl<K: Keeper> Remote<'_, K> {
         let mut request = Vec::new(self.alloc);
         position_ask(self.alloc, self.address.host.as_str(), &mut request)?;
         let stream = self.connect()?;
-        send(&mut &stream, request.as_slice())?;
-        position_take(self.alloc, &mut &stream)
+        send(&mut Timed::with_peer(self.rt, &stream), request.as_slice())?;
+        position_take(self.alloc, &mut Timed::with_peer(self.rt, &stream))
     }
 
     fn pull(&mut self) -> Result<Round, WebFault>
@@ -74,8 +75,8 @@ impl<K: Keeper> Remote<'_, K> {
             self.alloc,
             &mut self.service,
             request.as_slice(),
-            &mut &stream,
-            &mut &stream,
+            &mut Timed::with_peer(self.rt, &stream),
+            &mut Timed::with_peer(self.rt, &stream),
         )
     }
 
@@ -91,8 +92,8 @@ impl<K: Keeper> Remote<'_, K> {
             self.alloc,
             request.as_slice(),
             ending,
-            &mut &stream,
-            &mut &stream,
+            &mut Timed::with_peer(self.rt, &stream),
+            &mut Timed::with_peer(self.rt, &stream),
         )
     }
 }

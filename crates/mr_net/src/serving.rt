@@ -21,7 +21,7 @@ use std::net::{Ipv4Addr, TcpListener};
 
 /// Serves the database to that many connections at the port of this machine alone, one after the other, prints a line for each, and
 /// answers the status: 0 if all were served or failed, 1 if the database is refused or there is no memory for a line, 3 if
-/// the port can't be had or the writer fails.
+/// the port can't be had, the next connection can't be taken or the writer fails.
 pub fn serve<W: Write>(
     rt: &HostRuntime,
     alloc: Global,
@@ -95,7 +95,7 @@ fn serving_text(alloc: Global, port: u16) -> Result<String, AllocError>
     format!(in alloc; "serving 127.0.0.1:{port}\n")
 }
 
-/// Serves that many connections, and prints a line for each.
+/// Serves that many connections, and prints a line for each. It ends where the next one can't be taken.
 fn serve_all<K: Keeper, W: Write>(
     rt: &HostRuntime,
     alloc: Global,
@@ -107,7 +107,9 @@ fn serve_all<K: Keeper, W: Write>(
     ensures { TellsServed K.Keeper service.old service.new connections (W.contents out.old) (W.contents out.new) result }
 {
     for _ in 0..connections {
-        let served = serve_next(rt, alloc, service, listener);
+        let Ok(served) = serve_next(rt, alloc, service, listener) else {
+            return say_no_network(out);
+        };
         let status = say_served(alloc, out, served);
         if status != DONE {
             return status;

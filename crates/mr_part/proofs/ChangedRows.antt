@@ -1,15 +1,15 @@
 -- Of the writes that a batch executes anew, those that get other rows in the log: how they are picked.
-use Rattle.std.proofs.Common.{◌≡◌, ℕ, zero, suc, ◌+◌, ◌<◌, ◌≤◌, ◌||◌, ltb, Bool, true, false, cond, List, [], ◌∷◌, ◌++◌, length, get_or, take, drop, map, refl, sym, ap, ◌∙◌, append_assoc, append-nil, arith, eqb-true}
+use Rattle.std.proofs.Common.{◌≡◌, ℕ, suc, ◌<◌, ◌≤◌, ◌||◌, ltb, Bool, true, false, cond, List, [], ◌∷◌, ◌++◌, length, get_or, take, drop, map, refl, sym, ap, ◌∙◌, append_assoc, append-nil, arith, eqb-true}
 use Rattle.std.specs.List.{filter}
 use Rattle.std.proofs.lemmas.Bool.{true≢false}
 use Rattle.std.proofs.lemmas.Bool.Decides.{nat_tests}
-use Rattle.std.proofs.lemmas.List.{take-append-le, drop-append-le, get_or-map, map-append, length-append}
+use Rattle.std.proofs.lemmas.List.{take_all, drop_all, take-append-le, drop-append-le, get_or-map, map-append, length-append, length_push}
 use Rattle.std.proofs.lemmas.List.Elements.{filter-append}
 use Rattle.mr_model.specs.Replay.{Place, Taken, Logged, Done, Void}
 use Rattle.mr_model.specs.Writes.{Write}
 use Rattle.mr_replay.specs.Places.{UndoRow}
 use Rattle.mr_replay.specs.Rows.{Rows, executed, undo_rows_of}
-use Rattle.mr_part.specs.Changed.{same_place, picked}
+use Rattle.mr_part.specs.PartMoves.{same_place, picked}
 use Rattle.mr_part.specs.Logged.{undo_with}
 
 pub same_place-true : (p q : Place) → same_place p q ≡ true → p ≡ q
@@ -30,24 +30,6 @@ same_place-true Void Logged e = absurd (true≢false (sym e))
 same_place-true Void Done e = absurd (true≢false (sym e))
 same_place-true Void Void e = refl
 
--- ---- one by one
-
-take_whole : (n : ℕ) (ws : List Write) → length ws ≤ n → take n ws ≡ ws
-take_whole zero [] h = refl
-take_whole (suc n) [] h = refl
-take_whole zero (w ∷ ws) h = absurd (omega arith)
-take_whole (suc n) (w ∷ ws) h = ap (λ vs. w ∷ vs) (take_whole n ws (omega arith))
-
-drop_whole : (n : ℕ) (ws : List Write) → length ws ≤ n → drop n ws ≡ []
-drop_whole zero [] h = refl
-drop_whole (suc n) [] h = refl
-drop_whole zero (w ∷ ws) h = absurd (omega arith)
-drop_whole (suc n) (w ∷ ws) h = drop_whole n ws (omega arith)
-
-size_more : (ws : List Write) (w : Write) → length (ws ++ w ∷ []) ≡ suc (length ws)
-size_more [] w = refl
-size_more (x ∷ ws) w = ap (λ n. suc n) (size_more ws w)
-
 -- one write more
 pub picked_more : (news : ℕ) (test : Write → Bool) (ws : List Write) (w : Write) (is_changed : Bool) → is_changed ≡ (ltb (length ws) news || test w)
     → picked news test (ws ++ w ∷ []) ≡ cond is_changed (picked news test ws ++ w ∷ []) (picked news test ws)
@@ -60,9 +42,9 @@ picked_more news test ws w is_changed e = go (ltb (length ws) news) refl ∙ ap 
     go : (b : Bool) → ltb (length ws) news ≡ b → picked news test (ws ++ w ∷ []) ≡ cond (b || test w) (picked news test ws ++ w ∷ []) (picked news test ws)
     go true low =
         let few : length ws < news = grind (arith, nat_tests) in
-        let size = size_more ws w in
-        let all : picked news test ws ≡ ws = (λ i. take_whole news ws (omega (arith, few)) i ++ filter test (drop_whole news ws (omega (arith, few)) i)) ∙ append-nil ws in
-        (λ i. take_whole news (ws ++ w ∷ []) (omega (arith, few, size)) i ++ filter test (drop_whole news (ws ++ w ∷ []) (omega (arith, few, size)) i))
+        let size = length_push ws w in
+        let all : picked news test ws ≡ ws = (λ i. take_all news ws (omega (arith, few)) i ++ filter test (drop_all news ws (omega (arith, few)) i)) ∙ append-nil ws in
+        (λ i. take_all news (ws ++ w ∷ []) (omega (arith, few, size)) i ++ filter test (drop_all news (ws ++ w ∷ []) (omega (arith, few, size)) i))
         ∙ append-nil (ws ++ w ∷ []) ∙ ap (λ vs. vs ++ w ∷ []) (sym all)
     go false high =
         let many : news ≤ length ws = grind (arith, nat_tests) in

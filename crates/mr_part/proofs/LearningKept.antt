@@ -33,9 +33,9 @@ use Rattle.mr_part.specs.KeptRows.{kept_row, kept_row_with}
 use Rattle.mr_part.specs.Candidate.{write_with_id}
 use Rattle.mr_part.specs.KeptWrites.{KeptWrites, HasKept, logged_at, has_at, with_number, held_place, held_row}
 use Rattle.mr_replay.specs.Seen.{has_room}
-use Rattle.mr_part.specs.declared.candidate.Candidate.{Candidate}
+use Rattle.mr_part.specs.declared.batch.candidate.Candidate.{Candidate}
 use Rattle.mr_part.specs.Taken.{ShowsTaken, CoversScope}
-use Rattle.mr_part.proofs.JudgingKept.{inside_named}
+use Rattle.mr_part.proofs.Judging.{inside_named}
 use Rattle.mr_part.proofs.Learning.{any-with_room, kept-learned, kept-moved}
 
 -- ---- lists

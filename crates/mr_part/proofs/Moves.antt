@@ -32,7 +32,7 @@ use Rattle.mr_part.specs.Taken.{CoversScope, is_inside}
 use Rattle.mr_part.specs.KeptWrites.{held_place, held_row}
 use Rattle.mr_part.proofs.OrderNumbers.{dropped_long, order_numbers, slice_left, has_place}
 use Rattle.mr_part.proofs.BatchNumbers.{commits_long, new_number}
-use Rattle.mr_part.proofs.FilteredRows.{picked_here, left_here}
+use Rattle.mr_part.proofs.Picking.{picked_here, left_here}
 use Rattle.mr_model.proofs.Fronts.{get_below}
 
 -- ---- picking one by one

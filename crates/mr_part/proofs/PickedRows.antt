@@ -16,7 +16,7 @@ use Rattle.mr_replay.specs.Places.{UndoRow}
 use Rattle.mr_part.specs.declared.kept_rows.KeptRow.{KeptRow}
 use Rattle.mr_part.specs.KeptRows.{kept_row_with, kept_row, run_place, run_cmp}
 use Rattle.mr_part.specs.Logged.{undo_with}
-use Rattle.mr_part.specs.PickedLogs.{log_row_of, IsWriteWithin, AreWritesWithin, ArePicked}
+use Rattle.mr_part.specs.RowTests.{log_row_of, IsWriteWithin, AreWritesWithin, ArePicked}
 use Rattle.mr_part.proofs.KeptOrder.{run_order, rows_rise, KeyBefore, never_before}
 use Rattle.mr_part.proofs.Sorting.{sorted_is}
 

@@ -1,11 +1,12 @@
--- Rows that are read one by one, some of them done, and what all rows that are picked keep.
-use Rattle.std.proofs.Common.{◌≡◌, refl, sym, ap, ◌∙◌, subst, ℕ, zero, suc, ◌+◌, ◌<◌, Bool, true, false, cond, List, [], ◌∷◌, ◌++◌, length, get_or, take, map, inl, append_assoc, append-nil, arith}
-use Rattle.std.proofs.lemmas.Bool.{true≢false}
+-- Rows that are read one by one: some of them done, those that pass a test, and what all rows that are picked keep.
+use Rattle.std.proofs.Common.{◌≡◌, refl, sym, ap, ◌∙◌, subst, ℕ, zero, suc, ◌+◌, ◌<◌, Bool, true, false, cond, List, [], ◌∷◌, ◌++◌, length, get_or, take, map, inl, append_assoc, append-nil, arith, drop}
+use Rattle.std.proofs.lemmas.Bool.{true≢false, cond-true, cond-false}
 use Rattle.std.specs.List.{AllByRecursion, filter}
 use Rattle.mr_model.specs.Dropped.{Has}
 use Rattle.mr_model.proofs.Members.{has_right}
 use Rattle.mr_model.proofs.WordsReadBack.{all_append}
 use Rattle.mr_tables.proofs.BoardEntries.{filter_more}
+use Rattle.std.proofs.lemmas.List.{drop_more}
 
 -- some of these are done, and the rows are those of the others
 pub record IsDone {X R : Type 0} (f : X → R) (xs done : List X) (rows : List R) : Type 0 where
@@ -64,3 +65,15 @@ all_passed P p rows k row so one low at passed =
 pub all_over : {R : Type 0} (P : R → Type 0) (p : R → Bool) (rows : List R) (k : ℕ) (row : R) → AllByRecursion P (filter p (take k rows)) → k < length rows → row ≡ get_or rows k row → p row ≡ false → AllByRecursion P (filter p (take (k + 1) rows))
 all_over P p rows k row so low at failed =
     subst (AllByRecursion P) (sym (append-nil (filter p (take k rows))) ∙ ap (λ c. filter p (take k rows) ++ cond c (row ∷ []) []) (sym failed) ∙ filter_more p rows k row low at) so
+
+-- the row at this place comes next, and is picked
+pub picked_here : {R : Type 0} (p : R → Bool) (rows : List R) (k : ℕ) (row : R) → k < length rows → row ≡ get_or rows k row → p row ≡ true → filter p (drop k rows) ≡ row ∷ filter p (drop (k + 1) rows)
+picked_here p rows k row l at t =
+    ap (filter p) (drop_more rows k row l ∙ ap (λ r. r ∷ drop (k + 1) rows) (sym at))
+    ∙ cond-true (p row) (row ∷ filter p (drop (k + 1) rows)) (filter p (drop (k + 1) rows)) t
+
+-- or is not
+pub left_here : {R : Type 0} (p : R → Bool) (rows : List R) (k : ℕ) (row : R) → k < length rows → row ≡ get_or rows k row → p row ≡ false → filter p (drop k rows) ≡ filter p (drop (k + 1) rows)
+left_here p rows k row l at f =
+    ap (filter p) (drop_more rows k row l ∙ ap (λ r. r ∷ drop (k + 1) rows) (sym at))
+    ∙ cond-false (p row) (row ∷ filter p (drop (k + 1) rows)) (filter p (drop (k + 1) rows)) f

@@ -19,7 +19,7 @@ use Rattle.mr_part.specs.Answering.{nothing_taken}
 use Rattle.mr_part.specs.KeptWrites.{HasKept, held_row}
 use Rattle.mr_part.specs.KeptRows.{kept_row}
 use Rattle.mr_part.proofs.LearningKept.{held_all}
-use Rattle.mr_part.specs.declared.candidate.Candidate.{Candidate}
+use Rattle.mr_part.specs.declared.batch.candidate.Candidate.{Candidate}
 use Rattle.mr_part.specs.Taken.{ShowsTaken, ShowsPicked, TakesItem, TakesItems, TakenPicked}
 use Rattle.mr_part.specs.Sets.{IsSetOf}
 use Rattle.mr_part.proofs.Receiving.{drop_at, all_at, drop_none, err≢ok, item-within}

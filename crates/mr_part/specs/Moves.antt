@@ -10,7 +10,7 @@ use Rattle.mr_model.specs.Scopes.{is_late, is_touched}
 use Rattle.mr_model.specs.Moving.{BatchMoves}
 use Rattle.mr_model.specs.Tables.{seq_of, tables_of}
 use Rattle.mr_part.specs.declared.kept_rows.KeptRow.{KeptRow}
-use Rattle.mr_part.specs.declared.movable.Moving.{Moving}
+use Rattle.mr_part.specs.declared.batch.movable.Moving.{Moving}
 use Rattle.mr_part.specs.KeptWrites.{held_row}
 use Rattle.mr_part.specs.Sets.{IsSetOf}
 use Rattle.mr_part.specs.Taken.{CoversScope}

@@ -8,7 +8,7 @@ use Rattle.mr_model.specs.Replica.{is_among}
 use Rattle.mr_model.specs.Exchange.{Item}
 use Rattle.mr_model.specs.Scopes.{item_id, has_number}
 use Rattle.mr_part.specs.Sets.{has_id}
-use Rattle.mr_part.specs.declared.named.Named.{Named}
+use Rattle.mr_part.specs.declared.scope.named.Named.{Named}
 
 -- whether the set has a commit number
 abbrev pub has_commit : BTreeSet ℕ → ℕ → Bool

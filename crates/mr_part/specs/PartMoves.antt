@@ -1,5 +1,5 @@
 -- What a batch undoes and executes anew, as a call of a part gets it, and what the part answers.
-use Rattle.std.specs.Prelude.{◌≡◌, ℕ, List, map, filter, Result, Ok, Err, IfOk, ◌⊎◌}
+use Rattle.std.specs.Prelude.{◌≡◌, ℕ, List, map, filter, Result, Ok, Err, IfOk, ◌⊎◌, ◌==◌, ◌++◌, ◌||◌, nat_lt, Bool, true, false, not, take, drop}
 use Rattle.mr_model.specs.Texts.{Text}
 use Rattle.mr_model.specs.Writes.{Write}
 use Rattle.mr_model.specs.Replica.{Replica, IsReplica, tentative}
@@ -17,12 +17,13 @@ use Rattle.mr_base.specs.declared.refusals.Refusal.TheVariants.{OutOfMemory}
 use Rattle.mr_replay.specs.Places.{UndoRow}
 use Rattle.mr_replay.specs.Rows.{Rows}
 use Rattle.mr_tables.specs.declared.summary.Summary.{Summary}
-use Rattle.mr_tables.specs.Summary.{summary_of}
+use Rattle.mr_tables.specs.Summary.{summary_of, tally_at}
 use Rattle.mr_tables.specs.Change.{ChangeView, changed}
 use Rattle.mr_part.specs.Answering.{nothing_taken, reply_with}
 use Rattle.mr_part.specs.Parts.{part_of}
 use Rattle.mr_part.specs.Logged.{undo_with}
 use Rattle.mr_part.specs.KeptWrites.{held_place}
+use Rattle.mr_model.specs.Replay.{Place, Taken, Logged, Done, Void}
 
 -- The batch leads from the first replica, whose part has these numbers, rooms and board, to the second one, whose numbers and rooms
 -- are those; the undo rows are those of the tentative writes that it may move, and the writes are those that it has executed
@@ -46,3 +47,24 @@ AnswersItems a items result =
     ((reply_with (λ (taken : ℕ × ℕ × ChangeView). Took taken.0 taken.1) result ≡ (after_items a (take_items items 2 (Ok (nothing_taken a)))).reply)
     × IfOk result (λ taken. changed taken.2 (tables_of a) ≡ tables_of (after_items a (take_items items 2 (Ok (nothing_taken a)))).replica))
     ⊎ (result ≡ Err OutOfMemory)
+
+-- ---- of the writes that are executed anew, those that get another row in the log than they had
+
+abbrev pub same_place : Place → Place → Bool
+same_place (Taken j) (Taken k) = j == k
+same_place Logged Logged = true
+same_place Done Done = true
+same_place Void Void = true
+same_place _ _ = false
+
+-- whether a write isn't known by these numbers
+abbrev pub is_new : Summary → Write → Bool
+is_new s w = nat_lt (tally_at s.tallies w.stamp.server).count w.stamp.n
+
+-- whether a write is new by the old numbers, or has another place than it had
+abbrev pub is_elsewhere : Summary → (Write → Place) → (Write → Place) → Write → Bool
+is_elsewhere old was place w = is_new old w || not (same_place (was w) (place w))
+
+-- so many first writes, and of the others those that pass
+abbrev pub picked : ℕ → (Write → Bool) → List Write → List Write
+picked news test ws = take news ws ++ filter test (drop news ws)

@@ -1,5 +1,5 @@
 -- Rows of what became of writes, as a board tells them, and how they come into a change.
-use Rattle.std.specs.Prelude.{◌+◌, ◌≤◌, if◌then◌else◌, bytes_eq, Bool, true, false, List, [], ◌∷◌, map, Option, Some, None, ℕ, nat_le}
+use Rattle.std.specs.Prelude.{◌+◌, ◌≤◌, if◌then◌else◌, bytes_eq, Bool, true, false, List, [], ◌∷◌, map, Option, Some, None, ℕ, nat_le, ◌<◌, ◌^◌}
 use Rattle.mr_model.specs.Texts.{Text}
 use Rattle.mr_model.specs.Writes.{Id, Write, id_of}
 use Rattle.mr_model.specs.Tables.{PlaceRow, Booked, Cancelled, taken_back, BookingRow}
@@ -8,12 +8,14 @@ use Rattle.mr_replay.specs.declared.rows.Trace.{Trace}
 use Rattle.mr_replay.specs.declared.rows.Trace.TheVariants.{OfBooking, OfCancel}
 use Rattle.mr_replay.specs.declared.rows.Row.{Row}
 use Rattle.mr_replay.specs.Places.{UndoRow}
-use Rattle.mr_replay.specs.Rows.{Rows, row_at, target_if_done as taken_back_by}
+use Rattle.mr_replay.specs.Rows.{Rows, row_at, target_if_done as taken_back_by, undo_row_of, target_of}
 use Rattle.mr_tables.specs.declared.summary.Tally.{Tally}
 use Rattle.mr_tables.specs.Change.{ChangeView}
-use Rattle.mr_tables.specs.Written.{with_place}
+use Rattle.mr_tables.specs.Written.{with_place, meta_of, changed_tallies, written}
 use Rattle.mr_model.specs.Slots.{Slot}
 use Rattle.mr_tables.specs.Summary.{tally_at}
+use Rattle.mr_tables.specs.declared.summary.Summary.{Summary}
+use Rattle.mr_part.specs.Parts.{PartView}
 
 -- these rows are put one after the other, each into its table
 abbrev pub with_places_put : ChangeView → List PlaceRow → ChangeView
@@ -104,3 +106,18 @@ taken_rows ts b u = taken_rows_of ts b u.id (taken_back_by u.place u.target)
 abbrev pub TargetEnds : Rows → Option Id → Type 0
 TargetEnds b None = Unit {0}
 TargetEnds b (Some target) = RowEnds (row_at b target)
+
+-- ---- a write of the replica's own
+
+-- its rows are put, with these numbers, and the row of the booking that it takes back; behind the last commit all places of the order
+-- have the same rows
+abbrev pub part_puts : PartView → Summary → Write → ChangeView
+part_puts p s w =
+    with_places_put
+    (written (meta_of s) [] (changed_tallies p.summary.tallies s.tallies) s.commits (s.commits + 1) (w ∷ [])
+    (undo_row_of p.board w ∷ []) (None ∷ []))
+    (taken_rows p.summary.tallies p.board (undo_row_of p.board w))
+
+-- there are few enough commits, and the target of a cancel is a booking that ends on its day
+abbrev pub CanPut : PartView → Summary → Write → Type 0
+CanPut p s w = (s.commits + 1 + 1 < 2 ^ 64) × TargetEnds p.board (target_of w.action)

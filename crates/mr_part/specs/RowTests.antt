@@ -1,21 +1,70 @@
 -- Which rows are in scope: tests that are made once for all rows of a table, and for which scope they are.
-use Rattle.std.specs.Prelude.{◌≡◌, Bool, false, ◌||◌, List, [], ◌∷◌, map, filter, Option, Some, None}
+use Rattle.std.specs.Prelude.{◌≡◌, Bool, false, ◌||◌, List, [], ◌∷◌, map, filter, Option, Some, None, ℕ, ◌&&◌, flat_map, suc, if◌then◌else◌, ◌↔◌, IsTrue}
 use Rattle.std.specs.BTreeSet.{BTreeSet}
 use Rattle.mr_model.specs.Texts.{Text, within}
-use Rattle.mr_model.specs.Writes.{Id, same_id}
+use Rattle.mr_model.specs.Writes.{Id, same_id, Write, id_of, is_write}
 use Rattle.mr_model.specs.Replica.{Replica, IsReplica, is_among}
-use Rattle.mr_model.specs.Tables.{LogRow, BookingRow, ErrorRow, CancelledRow, Tables}
+use Rattle.mr_model.specs.Tables.{LogRow, BookingRow, ErrorRow, CancelledRow, Tables, log_row, log_row_with}
 use Rattle.mr_model.specs.Queries.{booking_id, error_id, cancelled_id, log_id}
-use Rattle.mr_model.specs.Scopes.{Scope, InRoom, OfTarget, NextCommits, OfItems, is_above, next_commits, touched_rooms, with_rows}
-use Rattle.mr_part.specs.declared.scope_bookings.BookingTest.{BookingTest}
-use Rattle.mr_part.specs.declared.scope_logs.LogTest.{LogTest}
-use Rattle.mr_part.specs.declared.scope_logs.LogTest.TheVariants as test
-use Rattle.mr_part.specs.declared.wanted.Wanted.{Wanted}
-use Rattle.mr_part.specs.BatchScopes.{has_log}
+use Rattle.mr_model.specs.Scopes.{Scope, InRoom, OfTarget, NextCommits, OfItems, is_above, next_commits, touched_rooms, with_rows, is_tentative, rooms_of_item, row_before}
+use Rattle.mr_part.specs.declared.scope.bookings.BookingTest.{BookingTest}
+use Rattle.mr_part.specs.declared.scope.logs.LogTest.{LogTest}
+use Rattle.mr_part.specs.declared.scope.logs.LogTest.TheVariants as test
+use Rattle.mr_part.specs.declared.scope.wanted.Wanted.{Wanted}
 use Rattle.mr_part.specs.KeptRows.{kept_row}
 use Rattle.mr_part.specs.Parts.{HasRowsButBookings, kept_in}
 use Rattle.mr_part.specs.Sets.{has_id, IsSetOf}
 use Rattle.mr_replay.specs.Seen.{has_room}
+use Rattle.mr_model.specs.Exchange.{Item}
+use Rattle.mr_part.specs.declared.scope.batch_scope.BatchScope.{BatchScope}
+use Rattle.mr_part.specs.Named.{has_named, IsNamedBy}
+use Rattle.mr_part.specs.Tails.{has_place, IsTail}
+use Rattle.std.specs.List.{AllByRecursion}
+use Rattle.mr_replay.specs.Rows.{undo_row_at}
+use Rattle.mr_model.specs.Dropped.{Has}
+use Rattle.mr_model.specs.Kept.{AreInRunOrder}
+use Rattle.mr_model.specs.Changes.{RiseById}
+use Rattle.mr_part.specs.declared.kept_rows.KeptRow.{KeptRow}
+
+-- ---- the writes that rows of log tell, picked row by row
+
+-- the row of log that tells a kept write
+abbrev pub log_row_of : KeptRow → LogRow
+log_row_of x = log_row_with x.write x.undo.place x.seq
+
+-- within the limits, and undone by the row of its own place
+abbrev pub IsWriteWithin : KeptRow → Type 0
+IsWriteWithin x = IsTrue (is_write x.write) × (x.undo ≡ undo_row_at x.write x.undo.place)
+
+abbrev pub AreWritesWithin : List KeptRow → Type 0
+AreWritesWithin xs = AllByRecursion IsWriteWithin xs
+
+-- how many of these rows a row does not stand before by its stamp, up to the first that it does
+abbrev pub stamp_place : LogRow → List LogRow → ℕ
+stamp_place row [] = 0
+stamp_place row (x ∷ xs) = if row_before row x then 0 else suc (stamp_place row xs)
+
+-- the rows that pass are those of kept writes, in the order of keys; in the order of execution these are the writes
+pub record ArePicked (a : Replica) (test : LogRow → Bool) (rows : List LogRow) (ws : List Write) : Type 0 where
+  pub by_key : List Write
+  pub rows_are : filter test rows ≡ map (log_row a) by_key
+  pub rising : RiseById (map id_of by_key)
+  pub same : (w : Write) → Has w by_key ↔ Has w ws
+  pub known : (w : Write) → Has w ws → Has w a.known
+  pub in_order : AreInRunOrder (map (log_row a) ws)
+
+-- ---- what a batch that is received needs of the rows of log
+
+-- whether the row is named, or tentative, in the tail and of a room that is touched
+abbrev pub has_log : BatchScope → LogRow → Bool
+has_log batch row =
+    has_named batch.named (log_id row) row.seq || ((is_tentative row && has_place batch.tail row.time row.server) && has_room batch.rooms row.room)
+
+-- what these items need, where so many commits are known, and these rows of the log tell which rooms the new ones touch
+pub record IsBatchScope (batch : BatchScope) (commits : ℕ) (items : List Item) (rows : List LogRow) : Type 0 where
+  pub named_by : IsNamedBy batch.named items
+  pub tail_is : IsTail batch.tail commits items
+  pub rooms_are : IsSetOf batch.rooms (flat_map (rooms_of_item commits rows) items)
 
 -- ---- rows of log
 

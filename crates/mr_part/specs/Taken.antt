@@ -15,7 +15,7 @@ use Rattle.mr_base.specs.declared.refusals.Refusal.{Refusal}
 use Rattle.mr_base.specs.declared.refusals.Refusal.TheVariants.{OutOfMemory}
 use Rattle.mr_tables.specs.declared.summary.Summary.{Summary}
 use Rattle.mr_tables.specs.Summary.{tally_at, summary_of}
-use Rattle.mr_part.specs.declared.candidate.Candidate.{Candidate}
+use Rattle.mr_part.specs.declared.batch.candidate.Candidate.{Candidate}
 use Rattle.mr_part.specs.declared.kept_rows.KeptRow.{KeptRow}
 use Rattle.mr_part.specs.Candidate.{write_verdict_with, commit_verdict}
 use Rattle.mr_part.specs.KeptWrites.{KeptWrites, HasKept, logged_at, is_number_of, held_row}

@@ -30,7 +30,7 @@ use sqlite::{Alter, Connection, Error, FileStore, Files, Options, Start, Unknown
 use sqlite_disk::{Disk, Memory};
 use sqlite_std_file::OpenError;
 use std::alloc::Global;
-use std::fs::File;
+use std::fs;
 use std::hash::{BuildHasher, RandomState};
 use std::io::ErrorKind;
 use std::rt::HostRuntime;
@@ -194,10 +194,11 @@ fn take_copy<S: Alter + Drop>(
     }
 }
 
+// Whether nothing is there where the path leads. It is looked at and not opened: the open of a pipe waits for its other end.
 fn is_missing(rt: &HostRuntime, path: &str) -> bool {
-    match File::open(rt, path) {
+    match fs::metadata(rt, path) {
         Ok(_) => false,
-        Err(error) => error.kind() == ErrorKind::NotFound,
+        Err(error) => matches!(error.kind(), ErrorKind::NotFound | ErrorKind::NotADirectory),
     }
 }
 

@@ -144,9 +144,10 @@ impl<K: Keeper> Keeper for Cached<K> {
     }
 
     fn load_part(&mut self, scope: &Scope<'_>) -> Result<Part, Fault> {
-        let Some(memory) = self.recall()? else {
+        let Some(mut memory) = self.recall()? else {
             return self.keeper.load_part(scope);
         };
+        memory.want_board(scope);
         let loaded = memory.load_part(scope);
         let answer = told(loaded);
         if is_failure(&answer) {

@@ -28,7 +28,7 @@ impl Model for ListKeeper {
 }
 
 impl ListKeeper {
-    /// The tables of a replica that knows nothing yet. It takes memory for their board at once, if there is some, and more as they grow.
+    /// The tables of a replica that knows nothing yet. It takes its memory from this allocator later, as they grow.
     pub fn new(alloc: Global, server: ServerId, primary: ServerId) -> ListKeeper
         ensures tables { result.tables ≡ tables_of (opening server primary) }
         ensures failures { result.failures ≡ 0 }
@@ -85,6 +85,7 @@ impl Keeper for ListKeeper {
     }
 
     fn load_part(&mut self, scope: &Scope<'_>) -> Result<Part, Fault> {
+        self.memory.want_board(scope);
         counted(told(self.memory.load_part(scope)), &mut self.failures)
     }
 

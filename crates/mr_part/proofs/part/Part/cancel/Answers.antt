@@ -13,7 +13,7 @@ use Rattle.mr_part.specs.Parts.{PartView}
 use Rattle.mr_part.specs.Placing.{has_booking}
 use Rattle.mr_part.specs.Steps.{cancel_request, outcome_at_room}
 use Rattle.mr_part.proofs.Submitting.{Withdraws, withdraws, not_booked}
-use Rattle.mr_part.proofs.Parting.{target_booked, part_cancel}
+use Rattle.mr_part.proofs.PartCalls.{target_booked, part_cancel}
 use Rattle.mr_part.proofs.part.Part.cancel.Goals as goal
 
 pub returns-then-not-has_booking-clause-step : goal.returns-then-not-has_booking-clause-step

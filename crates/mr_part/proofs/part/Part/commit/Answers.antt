@@ -9,7 +9,7 @@ use Rattle.mr_part.specs.declared.kept_rows.KeptRow.{KeptRow}
 use Rattle.mr_part.specs.KeptRows.{row_writes, row_undos}
 use Rattle.mr_part.specs.Placing.{cancellers_on}
 use Rattle.mr_part.specs.Parts.{PartView}
-use Rattle.mr_part.proofs.Parting.{part_commit}
+use Rattle.mr_part.proofs.PartCalls.{part_commit}
 use Rattle.mr_part.proofs.Receiving.{own_primary}
 use Rattle.mr_part.proofs.part.Part.commit.Goals as goal
 

@@ -13,7 +13,7 @@ use Rattle.mr_part.specs.Answering.{reply_with}
 use Rattle.mr_part.specs.Parts.{PartView}
 use Rattle.mr_part.specs.Steps.{submit_request, outcome_in}
 use Rattle.mr_part.proofs.Submitting.{Submits, submits}
-use Rattle.mr_part.proofs.Parting.{part_submit}
+use Rattle.mr_part.proofs.PartCalls.{part_submit}
 use Rattle.mr_part.proofs.part.Part.submit.Goals as goal
 
 pub returns-in_err-stamp-clause-step : goal.returns-in_err-stamp-clause-step

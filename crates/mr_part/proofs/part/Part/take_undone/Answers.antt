@@ -3,10 +3,13 @@ use Rattle.std.proofs.lemmas.Result.{err_from_is_err_and}
 use Rattle.mr_model.proofs.Moved.{batches_move_touched_rooms}
 use Rattle.mr_base.specs.Batches.{item_of}
 use Rattle.mr_part.specs.Answering.{nothing_taken}
-use Rattle.mr_part.specs.Moves.{IsMoving}
+use Rattle.mr_part.specs.KeptWrites.{held_place}
+use Rattle.mr_part.specs.Logged.{undo_with}
+use Rattle.mr_part.specs.Moves.{IsMoving, ShowsMoves}
 use Rattle.mr_part.specs.Taken.{ReachedView, is_inside}
 use Rattle.mr_part.specs.Parts.{PartView}
 use Rattle.mr_part.proofs.Growing.{items-grow}
+use Rattle.mr_part.proofs.Moves.{again_picked, undos_picked}
 use Rattle.mr_part.proofs.TakingItems.{all_within}
 use Rattle.mr_part.proofs.ReceivingPart.{part_received, part_refused}
 use Rattle.mr_part.proofs.part.Part.take_undone.Goals as goal
@@ -42,7 +45,13 @@ returns-clause-step c = λ good short a sound part moving undone.
     let view = c.reached.view_is in
     let m = batches_move_touched_rooms items 2 (nothing_taken a) p sound (all_within items good) exact in
     let moves = subst (λ n. IsMoving c.args.moving.now moving.touched n items) (sym (ap (λ (v : PartView). v.summary.commits) e)) moving.moving_is in
-    let anew = c.in_ok-anew.ensures.anew a b items (is_inside a items) moving.touched moves (record { sound = sound; moves = m; are_touched = moving.are_touched; commits_are = ap (λ (v : PartView). v.summary.commits) e; covers = λ w h. h; kept_are = ap (λ (v : ReachedView). v.kept) view ∙ shows.kept; marks = shows.marks }) in
+    let touched = moving.touched in
+    let had = c.self.inside.summary.commits in
+    let rows = c.reached.inside.kept.items in
+    let shown : ShowsMoves a b items (is_inside a items) touched had rows = record { sound = sound; moves = m; are_touched = moving.are_touched; commits_are = ap (λ (v : PartView). v.summary.commits) e; covers = λ w h. h; kept_are = ap (λ (v : ReachedView). v.kept) view ∙ shows.kept; marks = shows.marks } in
+    let picked = c.in_ok-anew.ensures.anew touched items moves in
+    let anew = picked.0 ∙ again_picked a b items (is_inside a items) touched had rows shown in
+    let was = picked.1 ∙ undos_picked a b items (is_inside a items) touched had rows shown ∙ ap (map (undo_with (held_place a))) (sym picked.0) in
     let turns = c.in_ok-change.ensures.turns items a b (record {
       sound = sound;
       old_is = ap (λ (v : PartView). v.summary) e;
@@ -53,17 +62,17 @@ returns-clause-step c = λ good short a sound part moving undone.
       summary_is = ap (λ (v : ReachedView). v.summary) view ∙ shows.summary;
       rooms_are = c.deref-3.ensures.value ∙ ap (λ (v : ReachedView). v.rooms) view ∙ shows.rooms;
       undone_are = undone;
-      writes_are = anew.0;
-      was_are = anew.1;
+      writes_are = anew;
+      was_are = was;
     }) in
-    let had = c.len-had.ensures in
+    let held = c.len-had.ensures in
     let have = c.len.ensures in
     let old = c.self.inside.kept.ok in
     let new = c.reached.inside.kept.ok in
-    let was = ap (λ (v : PartView). length v.kept) c.self.view_is in
+    let before_kept = ap (λ (v : PartView). length v.kept) c.self.view_is in
     let now = ap (λ (v : ReachedView). length v.kept) view in
     let more = c.saturating_sub-writes.ensures in
-    let counted : c.saturating_sub-writes.result ≡ length reached.kept - length c.args.self.kept = omega (arith, had, have, old, new, was, now, more) in
+    let counted : c.saturating_sub-writes.result ≡ length reached.kept - length c.args.self.kept = omega (arith, held, have, old, new, before_kept, now, more) in
     let before = ap (λ (v : PartView). v.summary.commits) c.self.view_is in
     let after = ap (λ (v : ReachedView). v.summary.commits) view in
     let rise = c.saturating_sub-commits.ensures in

@@ -1,3 +1,4 @@
+use Rattle.std.proofs.Common.{sym, subst}
 use Rattle.std.specs.Prelude.{◌≡◌, false, IfOk}
 use Rattle.mr_model.specs.Replica.{Replica}
 use Rattle.mr_model.specs.Tables.{Stands}
@@ -28,7 +29,8 @@ returns-then-is_failure-clause-loaded g c =
 pub returns-clause-loaded : goal.returns-clause-loaded
 returns-clause-loaded g c =
     of_memory g.K.Keeper (λ t. (a : Replica) → Stands t a → IfOk c.told-answer.result (λ part. IsPartOf part (scope_of c.args.scope.now) a)) c.args.self.now c.recall.new.self c.self.inside.keeper c.in_ok-memory.field-0 c.in-Some.memory c.in_ok-memory.ensures.quiet c.self.view_is c.in_ok-memory.ensures.rows c.in-Some.is
-    (λ a h. passed_on (λ part. IsPartOf part (scope_of c.args.scope.now) a) c.load_part-loaded.result c.told-answer.result c.told-answer.ensures.ok c.told-answer.ensures.err (c.load_part-loaded.ensures.loaded a h))
+    (λ a h. passed_on (λ part. IsPartOf part (scope_of c.args.scope.now) a) c.load_part-loaded.result c.told-answer.result c.told-answer.ensures.ok c.told-answer.ensures.err
+    (c.load_part-loaded.ensures.loaded a (subst (λ t. Stands t a) (sym c.want_board.ensures) h)))
 
 pub returns-in_default-clause-free : goal.returns-in_default-clause-free
 returns-in_default-clause-free g c =
@@ -41,7 +43,8 @@ returns-then-is_failure-clause-free g c =
 pub returns-clause-free : goal.returns-clause-free
 returns-clause-free g c =
     of_memory g.K.Keeper (λ t. IfOk c.told-answer.result (λ part. is_taken (id_given (scope_of c.args.scope.now) part.summary) t ≡ false)) c.args.self.now c.recall.new.self c.self.inside.keeper c.in_ok-memory.field-0 c.in-Some.memory c.in_ok-memory.ensures.quiet c.self.view_is c.in_ok-memory.ensures.rows c.in-Some.is
-    (passed_on (λ part. is_taken (id_given (scope_of c.args.scope.now) part.summary) c.in-Some.memory ≡ false) c.load_part-loaded.result c.told-answer.result c.told-answer.ensures.ok c.told-answer.ensures.err c.load_part-loaded.ensures.free)
+    (subst (λ t. IfOk c.told-answer.result (λ part. is_taken (id_given (scope_of c.args.scope.now) part.summary) t ≡ false)) c.want_board.ensures
+    (passed_on (λ part. is_taken (id_given (scope_of c.args.scope.now) part.summary) c.want_board.new.self ≡ false) c.load_part-loaded.result c.told-answer.result c.told-answer.ensures.ok c.told-answer.ensures.err c.load_part-loaded.ensures.free))
 
 pub invariant_of-self-then-is_failure : goal.invariant_of-self-then-is_failure
 invariant_of-self-then-is_failure g c =

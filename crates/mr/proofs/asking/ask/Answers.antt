@@ -1,4 +1,0 @@
-use Rattle.mr.proofs.asking.ask.Goals as goal
-
-pub returns : goal.returns
-returns g c = (c.ask.ensures.served, c.ask.ensures.replied)

@@ -1,5 +1,0 @@
-use Rattle.mr.proofs.UniqueReading.{reads_one_way}
-use Rattle.mr.proofs.script.scripts_are_read_one_way.Goals as goal
-
-pub returns : goal.returns
-returns c = reads_one_way

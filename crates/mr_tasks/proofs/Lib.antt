@@ -1,0 +1,9 @@
+mod WordLaws
+mod ScriptLines
+mod CutSlots
+mod ScriptLaws
+mod RunLaws
+mod UniqueReading
+mod AskLaws
+mod DatabaseLaws
+mod EndLaws
