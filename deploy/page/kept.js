@@ -1,6 +1,7 @@
 // The sheets that this browser has read, kept in it, for when the page is opened anew while the office gives no reply.
 const PREFIX = 'rooms.sheet.', MOST = 150;
 
+/** An empty text is that of a room that the office doesn't know. */
 export function keepSheet(room, day, text, at) {
   try { localStorage.setItem(PREFIX + room + ' ' + day, JSON.stringify({ text, at: at.getTime() })); } catch { /* then it lasts as long as this page */ }
 }

@@ -57,6 +57,7 @@ export async function ask(path, body) {
   try { reply.json = JSON.parse(reply.text); } catch { /* a sheet, or a page of the proxy */ }
   const error = reply.json && reply.json.error;
   if (error === 'not sent') throw new Fault(false, 'the office is not taking requests');
+  if (error === 'no reply') throw new Fault(true, 'no reply');
   if (reply.status !== 200 && !(reply.json && reply.json.refusal) && error !== 'bad request') throw new Fault(true, 'status ' + reply.status);
   if (path !== '/rooms.json') heard();
   return reply;
@@ -132,7 +133,7 @@ export async function askSheet(room, day) {
   const sheet = { rows: reply.status === 200 ? readSheet(reply.text) : null, at: new Date() };
   for (const row of sheet.rows || []) sinceOf(stateKey(room, { state: 'booked', day, ...row }));
   sheets.set(room + ' ' + day, sheet);
-  if (sheet.rows) keepSheet(room, day, reply.text, sheet.at);
+  keepSheet(room, day, sheet.rows ? reply.text : '', sheet.at);
   return sheet;
 }
 
@@ -147,7 +148,7 @@ export function sheetOf(room, day) {
   const name = room + ' ' + day;
   if (!sheets.has(name) && silence.failures) {
     const kept = keptSheet(room, day);
-    if (kept) sheets.set(name, { rows: readSheet(kept.text), at: kept.at, isKept: true });
+    if (kept) sheets.set(name, { rows: kept.text ? readSheet(kept.text) : null, at: kept.at, isKept: true });
   }
   return sheets.get(name) || null;
 }

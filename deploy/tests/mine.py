@@ -50,16 +50,21 @@ def a_round():
     page.waits(lambda: page.run('return window.last && Date.now() - window.last > 700'))
 
 
+def opens_with(entries, address):
+    """The page at this address, in a browser with these requests: put into it where no page goes on that would put its own back."""
+    page.open(f'{page.bare}/rooms.json')
+    page.run('localStorage.setItem("rooms.mine", JSON.stringify(arguments[0]))', entries)
+    page.open(page.bare + address)
+
+
 def few_questions():
     page.sign_in()
-    page.run('localStorage.setItem("rooms.mine", JSON.stringify(arguments[0]))', entries[:30])
-    page.open(f'{page.bare}/?few#{DAYS[0]}')
+    opens_with(entries[:30], f'/?few#{DAYS[0]}')
     page.until('thirty requests of the day that is shown', '#mine', 'Many 29')
     time.sleep(1)
     seen = asked(a_round)
     check('what is on the sheet that is shown is not asked again', sorted(seen) == [f'/rooms/{room}/days/{DAYS[0]}' for room in ('elm', 'oak')], seen)
-    page.run('localStorage.setItem("rooms.mine", JSON.stringify(arguments[0]))', entries)
-    page.open(f'{page.bare}/?many#{DAYS[0]}/week/oak')
+    opens_with(entries, f'/?many#{DAYS[0]}/week/oak')
     page.until('a hundred and fifty', '#mine', '30 requests')
     time.sleep(2)
     seen = asked(a_round)
@@ -102,8 +107,7 @@ def folded_by_day():
     time.sleep(0.7)
     check('a day that is opened stays open', page.run('return document.querySelectorAll("#mine details")[2].open'), height)
     past = [{**each, 'now': {**each['now'], 'day': '1995-12-18', 'mark': 'C'}, 'sent': 'past ' + each['sent']} for each in entries[40:43]]
-    page.run('localStorage.setItem("rooms.mine", JSON.stringify(arguments[0]))', entries[1:3] + past)
-    page.open(f'{page.bare}/?past#{DAYS[0]}')
+    opens_with(entries[1:3] + past, f'/?past#{DAYS[0]}')
     page.until('days that are past', '#mine', 'Take off all 3 of past days')
     page.picture_of('mine')
     page.click('#mine [data-key="past"]')
