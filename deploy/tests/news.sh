@@ -108,7 +108,7 @@ how_others_stand() {
 reply_of() {
     local port=$1 path=$2
     shift 2
-    curl -s -f --retry 20 --retry-delay 0 --retry-connrefused --retry-all-errors "$@" "http://127.0.0.1:$port$path"
+    curl -s -f --retry 60 --retry-delay 1 --retry-connrefused --retry-all-errors "$@" "http://127.0.0.1:$port$path"
 }
 
 # the primary commits only while all others were met; and what is made beside serving holds nobody up, though it takes as long as we want
