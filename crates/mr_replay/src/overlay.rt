@@ -191,9 +191,9 @@ impl Overlay {
         Ok(rows)
     }
 
-    /// Undoes a room's last executions, which `undone` names in the order in which they were done, and executes other writes of the
-    /// room in their place, as `Board::replay_room` does. The answer has the undo rows of these writes. If it is refused, the overlay
-    /// shows a part of that, and is to be dropped.
+    /// Undoes the last executions of some rooms, which `undone` names in the order in which they were done, and executes other writes of
+    /// these rooms in their place, as `Board::replay_room` does for one. The answer has the undo rows of these writes. If it is refused, the
+    /// overlay shows a part of that, and is to be dropped.
     pub fn replay(&mut self, undone: &[UndoRow], again: &[Write]) -> Result<Vec<UndoRow>, Refusal>
         ensures rows { IfOk result (λ rows. rows.items ≡ undo_rows_of (undone_all self.old undone.now) again.now) }
         ensures board { OnOk result (self.new ≡ executed_all (undone_all self.old undone.now) again.now) }
