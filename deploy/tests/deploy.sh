@@ -12,6 +12,7 @@ deploy=$(cd -- "$(dirname -- "${BASH_SOURCE[0]}")/.." && pwd)
 . "$deploy/tests/watched.sh"
 . "$deploy/tests/poor_week.sh"
 . "$deploy/tests/news.sh"
+. "$deploy/tests/together.sh"
 
 # ---- texts that go with the program
 
@@ -719,4 +720,5 @@ run_deploy() {
     run_offices
     run_proxy
     run_page
+    run_told
 }
