@@ -13,6 +13,7 @@ import datetime
 import json
 import os
 import re
+import socket
 import subprocess
 import sys
 import time
@@ -21,7 +22,7 @@ from page import DAY, Page, booking, check, slot
 
 office, port, folder, pictures = sys.argv[1], int(sys.argv[2]), sys.argv[3], sys.argv[4]
 ETC = os.environ['ROOMS_ETC']
-SOON = 60       # seconds in which a round of the service and one of a page that is looked at have been made
+SOON = 120      # seconds in which a round of the service and one of a page that is looked at have been made
 ROUND = 150     # and in which a page that nobody touches has asked again, on a busy machine
 LOST = 'East supplier'
 services, line, last_met = {}, None, 0
@@ -41,6 +42,11 @@ def heal():
     global line
     line = subprocess.Popen([sys.executable, '-B', os.path.join(os.path.dirname(__file__), 'line.py'), 'plain', str(port + 4), str(port + 1)],
                             stdout=subprocess.DEVNULL)
+    for _ in range(300):
+        try:
+            return socket.create_connection(('127.0.0.1', port + 4)).close()
+        except OSError:
+            time.sleep(0.1)
 
 
 def cut():
@@ -82,15 +88,14 @@ def window(page, name, number):
           page.run('return document.title'))
 
 
-def sent(page, name, press, selector, words):
-    """These words come of a press. One in the pause between two stretches isn't sent, as the page says then, and is pressed again."""
-    unsent = 'Nothing was sent'
+def sent(page, name, press, held):
+    """This holds after a press. One in the pause between two stretches isn't sent, as the page says then, and is pressed again."""
     for _ in range(20):
         press()
-        page.waits(lambda: words in page.text(selector) or unsent in page.text('body'))
-        if words in page.text(selector) or unsent not in page.text('body'):
+        page.waits(lambda: held() or 'Nothing was sent' in page.text('body'), SOON)
+        if held() or 'Nothing was sent' not in page.text('body'):
             break
-    check(name, words in page.text(selector), page.text(selector)[:300])
+    check(name, held(), [page.text(each) for each in ('#outcome', '#send-error', '#mine', '#news')])
 
 
 def twice(page, selector):
@@ -106,10 +111,14 @@ def button(words, title):
     return f'#news button[aria-label={json.dumps(words + ": " + title)}]'
 
 
-def books(page, time_of_day, title, length, until):
+def stands(page, time_of_day, title):
+    return title in page.text(booking('oak', time_of_day))
+
+
+def books(page, time_of_day, title, length):
     page.wish('oak', time_of_day, title)
     page.write('#length', str(length))
-    sent(page, f'{title} is booked', lambda: page.click('#send'), '#outcome', f'Booked, not final yet: oak, Monday {DAY}, {time_of_day}–{until}')
+    sent(page, f'{title} is booked', lambda: page.click('#send'), lambda: stands(page, time_of_day, title))
 
 
 def finds_no_room(page, time_of_day, title):
@@ -119,7 +128,7 @@ def finds_no_room(page, time_of_day, title):
             page.click('#question button.main')
     page.wish('oak', time_of_day, title)
     page.write('#length', '60')
-    sent(page, f'{title} finds no room', press, '#outcome', 'No room: oak is taken')
+    sent(page, f'{title} finds no room', press, lambda: 'No room: oak is taken' in page.text('#outcome'))
     page.click('#clear')
 
 
@@ -132,9 +141,9 @@ def unmet():
 
 
 def the_same_hour():
-    books(west, '09:00', 'West board', 60, '10:00')
-    books(west, '14:00', 'West course', 60, '15:00')
-    books(east, '09:00', LOST, 90, '10:30')
+    books(west, '09:00', 'West board', 60)
+    books(west, '14:00', 'West course', 60)
+    books(east, '09:00', LOST, 90)
     seen(east, 'the service of east has seen it', '#met', '1 request waits to be final')
     check('nobody has news while the line is cut', east.text('#bar') == '' and west.text('#bar') == '', east.text('#bar'))
     window(east, 'east', 0)
@@ -167,9 +176,12 @@ def met_at_both(before, after):
         seen(page, f'{mine}: the other was met', '#met', f'Met {other} ')
         check(f'{mine}: at this time', re.match(rf'Met {other} (\w+ {"[0-9-]{10}"} )?\d\d:\d\d\.', page.text('#met')), page.text('#met'))
         check(f'{mine}: which is not red', not page.has('#met .red'), page.text('#met'))
-        [found] = read(page, '/status.json')[words]
-        moment = datetime.datetime.strptime(found['met'] + '+0000', '%Y-%m-%dT%H:%M:%SZ%z').timestamp()
-        check(f'{mine}: it is the time of the courier', found['name'] == other and before <= moment <= after, (found, before, after))
+        found = [(it['name'], before <= seconds(it['met']) <= after) for it in read(page, '/status.json')[words]]
+        check(f'{mine}: it is the time of the courier', found == [(other, True)], (found, before, after))
+
+
+def seconds(moment):
+    return datetime.datetime.strptime(moment + '+0000', '%Y-%m-%dT%H:%M:%SZ%z').timestamp()
 
 
 def asking_again():
@@ -178,13 +190,12 @@ def asking_again():
     fields = [east.value(each) for each in ('#room', '#wish-day', '#wish-start', '#length', '#title')]
     check('the form has its title and length', fields == ['oak', DAY, '', '90', LOST], fields)
     east.click('#offers button[aria-label="Ask for oak, 10:00"]')
-    sent(east, 'a free hour is booked', lambda: east.click('#send'), '#outcome', f'Booked, not final yet: oak, Monday {DAY}, 10:00–11:30')
-    withdraw = '#news button.cancel'
-    east.waits(lambda: 'It is withdrawn.' in east.text('#news') or 'Nothing was sent' in east.text('#news'))
+    sent(east, 'a free hour is booked', lambda: east.click('#send'), lambda: stands(east, '10:00', LOST))
+    # the page withdraws what it stands for; unless that wasn't sent
+    east.waits(lambda: 'It is withdrawn.' in east.text('#news') or 'Nothing was sent' in east.text('#news'), SOON)
     if 'Nothing was sent' in east.text('#news'):
-        sent(east, 'what has no room is withdrawn by hand', lambda: twice(east, withdraw), '#outcome', f'Withdrawn: {LOST}')
+        sent(east, 'by hand', lambda: twice(east, '#news button.cancel'), lambda: 'It is withdrawn.' in east.text('#news'))
     east.until('what has no room is withdrawn', '#news', 'It is withdrawn.')
-    east.there('the booking is on the sheet', booking('oak', '10:00'))
 
 
 def telling():
@@ -203,12 +214,12 @@ def withdrawn_while_cut():
     """Two at east that found no room, one of which is withdrawn, while west cancels what is in their way, and that is final there."""
     finds_no_room(east, '14:00', 'Waits')
     mine = '#mine li:has(button[aria-label$=": Waits"])'
-    sent(east, 'one is withdrawn', lambda: twice(east, f'{mine} button.cancel'), '#outcome', 'Withdrawn: Waits, by request 2-')
+    sent(east, 'one is withdrawn', lambda: twice(east, f'{mine} button.cancel'), lambda: 'Withdrawn Waits' in east.text(mine))
     seen(east, 'and the office has its cancel', mine, 'withdrew it: it had no room')
     finds_no_room(narrow, '14:00', 'Hopes')
     west.click(booking('oak', '14:00'))
     west.until('a booking of west', '#box', 'West course')
-    sent(west, 'is cancelled there', lambda: twice(west, '#box .cancel'), '#box', 'cancelled it')
+    sent(west, 'is cancelled there', lambda: twice(west, '#box .cancel'), lambda: 'cancelled it' in west.text('#box'))
     seen(west, 'for good', '#box', 'cancelled it.')
     west.keys('\ue00c')                     # escape
     exchange('what was withdrawn')
