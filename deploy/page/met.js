@@ -27,7 +27,7 @@ function metWords(status, at = new Date()) {
     return { isRed, words: (met ? 'Met ' + name + ' ' + momentOf(met) : 'Never met ' + name) + (isRed && fault ? ' (' + fault + ')' : '') };
   });
   const count = status.tentative;
-  words.push({ isRed: false, words: count === 1 ? '1 request waits to be final' : (count || 'no') + ' requests wait to be final' });
+  words.push({ isRed: false, words: count === 1 ? '1 request waits to be final' : (count || 'No') + ' requests wait to be final' });
   if (isOlder(made, SILENT)) words.unshift({ isRed: true, words: 'The office’s service has written nothing since ' + (made ? momentOf(made) : 'ever') });
   return words;
 }

@@ -235,7 +235,7 @@ def withdrawn_while_cut():
         page.there(f'{name}: what was asked again has its hours', booking('oak', '10:00'))
         page.there(f'{name}: the hour after it is free', slot('oak', '15:00'))
         seen(page, f'{name}: what waits', '#met', 'requests wait to be final')
-    seen(west, 'all is final at the primary', '#met', 'no requests wait to be final')
+    seen(west, 'all is final at the primary', '#met', 'No requests wait to be final')
 
 
 def red_after_a_minute():
