@@ -50,6 +50,17 @@ expect_line() {
     expect "$name" "$wanted_status" "$scratch/wanted" "$@"
 }
 
+# helped NAME STATUS: the status is 0, and what was asked for stands on standard output alone
+helped() {
+    if [ "$2" = 0 ] && grep -qE '^rooms |^  sheet' "$scratch/out" && [ ! -s "$scratch/err" ]; then
+        passed=$((passed + 1))
+    else
+        echo "FAILED: $1: status $2; printed:"
+        head -c 2000 -- "$scratch/out" "$scratch/err"
+        failed=$((failed + 1))
+    fi
+}
+
 # same NAME FILE FILE: the two have the same bytes
 same() {
     if cmp -s -- "$2" "$3"; then

@@ -17,8 +17,8 @@ run_words() {
     printf 'bad command line\n' > "$scratch/wanted"
     "$program" --help > "$scratch/out" 2> "$scratch/err" < /dev/null
     told 'help of the program itself' $? 2 "$scratch/wanted"
-    : > "$scratch/wanted"
-    expect 'help' 0 "$scratch/wanted" --help
+    ./rooms --help > "$scratch/out" 2> "$scratch/err" < /dev/null
+    helped 'help' $?
     expect_line 'an empty word' 2 'bad command line' ''
     expect_line 'no script' 2 'bad command line' rehearse
     expect_line 'a word too many' 2 'bad command line' rehearse examples/one_booking.script examples/one_booking.script
