@@ -92,10 +92,13 @@ second_places() {
 days_and_room() {
     local crt=$ROOMS_ETC/west.crt line
     openssl req -x509 -newkey rsa:2048 -nodes -days 400 -subj /CN=localhost -keyout "$folder/key" -out "$crt" 2> /dev/null
+    # the last of the days isn't whole any more
+    sleep 2
     held 'a certificate' eval '"$check" west | grep -q "certificate of west ends in 399 days"'
     openssl x509 -in "$crt" -signkey "$folder/key" -days 11 -out "$folder/peer.crt" 2> /dev/null
     openssl x509 -in "$crt" -signkey "$folder/key" -days 0 -out "$folder/new" 2> /dev/null
     mv "$folder/new" "$crt"
+    sleep 2
     printf 'user = "a:b"\ncacert = "%s"\n' "$folder/peer.crt" > "$folder/options"
     echo 'DISK_LEFT=99999999' >> "$ROOMS_ETC/west.conf"
     line=$("$check" -t west | sed 's/HAS [0-9]* MB/HAS N MB/')
