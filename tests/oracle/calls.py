@@ -1,5 +1,6 @@
 """Calls of the built program, for the tests in Python: one command, and a database that is served."""
 
+import errno
 import os
 import random
 import signal
@@ -61,11 +62,18 @@ class Served:
                 for piece in pieces:
                     peer.sendall(piece)
                 peer.shutdown(socket.SHUT_WR)
-            except (BrokenPipeError, ConnectionResetError):
-                pass  # a reply may come before all was sent
+            except OSError as fault:
+                # a reply may come before all was sent: what stands behind a whole request isn't waited for
+                if fault.errno not in (errno.EPIPE, errno.ECONNRESET, errno.ENOTCONN):
+                    raise
             reply = b''
             while True:
-                piece = peer.recv(65536)
+                try:
+                    piece = peer.recv(65536)
+                except ConnectionResetError:
+                    if not reply:
+                        raise
+                    return reply  # it came, and then the connection ended over what nobody read
                 if not piece:
                     return reply
                 reply += piece
