@@ -41,6 +41,24 @@ run_pretended() {
     echo "$passed passed, $failed failed"
 }
 
+# functions_twice FILE..: the functions that these define more than once, a line each; what stands within a function isn't looked at
+functions_twice() {
+    grep -hoE '^[a-zA-Z_][a-zA-Z_0-9]* *\(\)' -- "$@" | sort | uniq -d
+}
+
+# the scripts of a part share one name space
+run_functions() {
+    local files
+    printf '%s\n' 'one() { :; }' 'two() { :; }' > "$scratch/first.sh"
+    printf '%s\n' 'two() { :; }' 'three() { two() { :; }; }' > "$scratch/second.sh"
+    echo 'two()' > "$scratch/wanted"
+    functions_twice "$scratch/first.sh" "$scratch/second.sh" > "$scratch/out"
+    told 'a function of two scripts is found' 0 0 "$scratch/wanted"
+    mapfile -t files < <(find tests deploy/tests -name '*.sh')
+    functions_twice "${files[@]}" > "$scratch/out"
+    told 'each function of the tests stands in one script' 0 0 "$scratch/empty"
+}
+
 run_side_by_side() {
     local folder=$scratch/parts process words
     pretended_parts "$folder"
@@ -63,4 +81,5 @@ run_side_by_side() {
         ./test $words > "$scratch/out" 2> "$scratch/err" < /dev/null
         told "test $words" $? 2 "$scratch/empty"
     done
+    run_functions
 }
