@@ -143,7 +143,7 @@ gives() {
 # what each version of the exchange text can say
 run_versions() {
     local gamma='W 1 4 4 oak 60 1995-12-18 09:00 0 Gamma' beta='W 1 2 2 oak 60 1995-12-18 09:00 1 1995-12-18 10:00 Beta'
-    local first='W 1 1 1 oak 60 1995-12-18 09:00 0 Alpha'
+    local first='W 1 1 1 oak 60 1995-12-18 09:00 0 Alpha' took
     blank 1 1
     expect_line 'a room that is rebooked' 0 'ok' add-room "$database" oak
     expect_line 'Alpha' 0 '1-1 T 1995-12-18 09:00-10:00' book "$database" oak 60 1995-12-18 09:00 Alpha
@@ -154,11 +154,20 @@ run_versions() {
     expect_line 'Alpha is cancelled again' 0 '1-5 T void 1-1' cancel "$database" oak 1-1
     gives 'a batch in the second version' 0 'wrote 186 bytes' 10 \
         'mr2 1 1' "$first" 'C 1 1 1' "$beta" 'X 1 3 3 oak 1 1' "$gamma" 'X 1 5 5 oak 1 1' 'E' -- 'mp2 2 1' 'K 0' 'E'
+    gives 'a batch of the last cancel alone' 0 'wrote 26 bytes' 10 'mr2 1 1' 'X 1 5 5 oak 1 1' 'E' -- 'mp2 9 1' 'K 1' 'V 1 4' 'E'
     gives 'a batch in the first version, cut before a cancel' 0 'wrote 114 bytes' 3 \
         'mr1 1 1' "$first" 'C 1 1 1' "$beta" 'M' -- 'mp1 9 1' 'K 0' 'E'
     gives 'a batch in the first version, with a cancel' 1 'refused 27 NeedsVersion2' 4 -- 'mp1 9 1' 'K 0' 'E'
     gives 'another primary before that' 1 'refused 16 WrongPrimary' 4 -- 'mp1 9 2' 'K 0' 'E'
     gives 'a third version' 1 'refused 23 BadPosition' 4 -- 'mp3 9 1' 'K 0' 'E'
+    blank 2 1
+    for took in 'took 5 writes 1 commits' 'took 0 writes 0 commits'; do
+        brings "$took of all of it" 0 "$took" 'mr2 1 1' "$first" 'C 1 1 1' "$beta" 'X 1 3 3 oak 1 1' "$gamma" 'X 1 5 5 oak 1 1' 'E'
+        has "the position, $took" position 'mp2 2 1' 'K 1' 'V 1 5' 'E'
+        has "the sheet, $took" 'sheet oak 1995-12-18' 'oak 1995-12-18 Monday' '09:00-10:00 T 1-4 Gamma' '10:00-11:00 T 1-2 Beta'
+        has "what is cancelled, $took" 'outcome oak 1-1' '1-1 C cancelled T 1-3'
+        has "what is void, $took" 'errors oak' 'oak errors' 'T 1-5 cancel 1-1'
+    done
     blank 2 1
     brings 'a batch of the second version' 0 'took 2 writes 1 commits' 'mr2 1 1' "$first" 'C 1 1 1' "$beta" 'E'
     expect_line 'a commit is dropped' 0 'dropped 1' truncate "$database" 1
