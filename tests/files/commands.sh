@@ -95,16 +95,28 @@ run_hostile() {
 }
 
 run_primary() {
+    local version
     blank 1 1
     expect_line 'a room' 0 'ok' add-room "$database" oak
     expect_line 'a booking' 0 '1-1 T 1995-12-18 09:00-09:30' book "$database" oak 30 1995-12-18 09:00 Alpha
     brings 'a commit brought to the primary' 1 'refused 21 PrimaryOnly 2' 'mr1 1 1' 'C 1 1 1' 'E'
     expect_line 'the primary drops nothing' 1 'refused 11 PrimaryKeepsAll' truncate "$database" 1
     expect_line 'the primary commits' 0 'committed 1' commit "$database" 5
+    for version in 1 2; do
+        gives "a write and its commit, in version $version" 0 'wrote 58 bytes' 10 \
+            "mr$version 1 1" "$alpha" 'C 1 1 1' 'E' -- "mp$version 9 1" 'K 0' 'E'
+        gives "a commit alone, in version $version" 0 'wrote 18 bytes' 10 \
+            "mr$version 1 1" 'C 1 1 1' 'E' -- "mp$version 9 1" 'K 0' 'V 1 1' 'E'
+    done
     blank 2 1
     expect_line 'another commits nothing' 1 'refused 10 NotPrimary' commit "$database" 1
     expect_line 'a room of its own' 0 'ok' add-room "$database" oak
     expect_line 'the room again' 1 'refused 8 RoomThere' add-room "$database" oak
+    gives 'a position that ends early' 1 'refused 23 BadPosition' 10 -- 'mp1 9 1'
+    expect_line 'no commit is dropped' 0 'dropped 0' truncate "$database" 0
+    expect_line 'there is none to drop' 1 'refused 12 BeyondCommitted' truncate "$database" 1
+    has 'the sheet after all that is refused' 'sheet oak 1995-12-18' 'oak 1995-12-18 Monday' '(no bookings)'
+    has 'the position after it' position 'mp2 2 1' 'K 0' 'E'
 }
 
 # gives NAME STATUS REPLY LINES WANTED.. -- CLAIM..: for a position of the lines behind the hyphens a batch of at most LINES lines is made,
@@ -131,7 +143,7 @@ gives() {
 # what each version of the exchange text can say
 run_versions() {
     local gamma='W 1 4 4 oak 60 1995-12-18 09:00 0 Gamma' beta='W 1 2 2 oak 60 1995-12-18 09:00 1 1995-12-18 10:00 Beta'
-    local first='W 1 1 1 oak 60 1995-12-18 09:00 0 Alpha'
+    local first='W 1 1 1 oak 60 1995-12-18 09:00 0 Alpha' took
     blank 1 1
     expect_line 'a room that is rebooked' 0 'ok' add-room "$database" oak
     expect_line 'Alpha' 0 '1-1 T 1995-12-18 09:00-10:00' book "$database" oak 60 1995-12-18 09:00 Alpha
@@ -142,11 +154,20 @@ run_versions() {
     expect_line 'Alpha is cancelled again' 0 '1-5 T void 1-1' cancel "$database" oak 1-1
     gives 'a batch in the second version' 0 'wrote 186 bytes' 10 \
         'mr2 1 1' "$first" 'C 1 1 1' "$beta" 'X 1 3 3 oak 1 1' "$gamma" 'X 1 5 5 oak 1 1' 'E' -- 'mp2 2 1' 'K 0' 'E'
+    gives 'a batch of the last cancel alone' 0 'wrote 26 bytes' 10 'mr2 1 1' 'X 1 5 5 oak 1 1' 'E' -- 'mp2 9 1' 'K 1' 'V 1 4' 'E'
     gives 'a batch in the first version, cut before a cancel' 0 'wrote 114 bytes' 3 \
         'mr1 1 1' "$first" 'C 1 1 1' "$beta" 'M' -- 'mp1 9 1' 'K 0' 'E'
     gives 'a batch in the first version, with a cancel' 1 'refused 27 NeedsVersion2' 4 -- 'mp1 9 1' 'K 0' 'E'
     gives 'another primary before that' 1 'refused 16 WrongPrimary' 4 -- 'mp1 9 2' 'K 0' 'E'
     gives 'a third version' 1 'refused 23 BadPosition' 4 -- 'mp3 9 1' 'K 0' 'E'
+    blank 2 1
+    for took in 'took 5 writes 1 commits' 'took 0 writes 0 commits'; do
+        brings "$took of all of it" 0 "$took" 'mr2 1 1' "$first" 'C 1 1 1' "$beta" 'X 1 3 3 oak 1 1' "$gamma" 'X 1 5 5 oak 1 1' 'E'
+        has "the position, $took" position 'mp2 2 1' 'K 1' 'V 1 5' 'E'
+        has "the sheet, $took" 'sheet oak 1995-12-18' 'oak 1995-12-18 Monday' '09:00-10:00 T 1-4 Gamma' '10:00-11:00 T 1-2 Beta'
+        has "what is cancelled, $took" 'outcome oak 1-1' '1-1 C cancelled T 1-3'
+        has "what is void, $took" 'errors oak' 'oak errors' 'T 1-5 cancel 1-1'
+    done
     blank 2 1
     brings 'a batch of the second version' 0 'took 2 writes 1 commits' 'mr2 1 1' "$first" 'C 1 1 1' "$beta" 'E'
     expect_line 'a commit is dropped' 0 'dropped 1' truncate "$database" 1
@@ -164,6 +185,7 @@ run_lone_cancels() {
     brings 'a request behind it' 0 'took 1 writes 0 commits' 'mr1 1 1' 'W 2 1 2 oak 30 1995-12-18 09:00 0 Late' 'E'
     has 'the request has its slot' 'sheet oak 1995-12-18' 'oak 1995-12-18 Monday' '09:00-09:30 T 2-1 Late'
     has 'the cancel stays void' 'outcome oak 1-1' '1-1 T void 2-1'
+    brings 'a request under the id of the cancel' 1 'refused 19 Forged 2' 'mr2 1 1' "$alpha" 'E'
     gives 'a position that has the cancel, in the first version' 0 'wrote 49 bytes' 10 \
         'mr1 9 1' 'W 2 1 2 oak 30 1995-12-18 09:00 0 Late' 'E' -- 'mp1 8 1' 'K 0' 'V 1 1' 'E'
     blank 9 1
@@ -315,6 +337,7 @@ run_strange() {
     strange 'a commit beyond all' 1 'refused 25 Store' "INSERT INTO cancel VALUES (1, 2, 'oak', 1, 1, 0, 1, 1000000000000)"
     strange 'the number of the first schema on these tables' 1 'refused 26 NotAReplica' 'UPDATE meta SET schema = 1'
     strange 'the number of a schema to come' 1 'refused 26 NotAReplica' 'UPDATE meta SET schema = 3'
+    strange 'the number of the second schema, negative' 1 'refused 26 NotAReplica' 'UPDATE meta SET schema = -2'
     strange 'a second number of the one row' 1 'refused 25 Store' 'UPDATE meta SET one = 2'
     strange 'a place in the undo rows of the first schema' 1 'refused 25 Store' 'INSERT INTO undo VALUES (1, 1, 0)'
     strange 'a write in the log of the first schema' 1 'refused 25 Store' \

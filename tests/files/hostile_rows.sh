@@ -40,7 +40,9 @@ run_second_lines() {
     local more=' 1995-12-18 10:00' sixteen=
     sixteen=$(printf "$more%.0s" $(seq 16))
     bad_second 'a cancel with a target too few' 'X 1 1 1 oak 2'
+    bad_second 'a cancel of an id in one word' 'X 1 1 1 oak 2-1'
     bad_second 'a cancel with a word too many' 'X 1 1 1 oak 2 1 Alpha'
+    bad_second 'a cancel with a number too many' 'X 1 1 1 oak 2 1 1'
     bad_second 'a cancel with a space behind it' 'X 1 1 1 oak 2 1 '
     bad_second 'a cancel of server 0' 'X 1 1 1 oak 0 1'
     bad_second 'a cancel of server 100' 'X 1 1 1 oak 100 1'
@@ -61,13 +63,18 @@ run_second_lines() {
     hostile 'a cancel and a request under one id' 'refused 19 Forged 3' 'mr2 1 1' 'X 1 1 1 oak 1 1' "W 1 1 1 $slot 0 Alpha"
     hostile 'a cancel committed before its request' 'refused 18 OutOfOrder 4' 'mr2 1 1' "W 1 1 1 $slot 0 Alpha" 'X 1 2 2 oak 1 1' 'C 1 1 2'
     blank 2 1
+    brings 'nine alternatives in the second version' 0 'took 1 writes 0 commits' 'mr2 1 1' "W 1 1 1 $slot 9${sixteen:0:9 * ${#more}} Alpha" 'E'
+    has 'the sheet of nine alternatives' 'sheet oak 1995-12-18' 'oak 1995-12-18 Monday' '09:00-09:30 T 1-1 Alpha'
+    blank 2 1
     brings 'sixteen alternatives' 0 'took 1 writes 0 commits' 'mr2 1 1' "W 1 1 1 $slot 16$sixteen Alpha" 'E'
+    gives 'sixteen alternatives in the first version' 1 'refused 27 NeedsVersion2' 10 -- 'mp1 9 1' 'K 0' 'E'
     blank 2 1
     brings 'a cancel of the greatest id' 0 'took 1 writes 0 commits' 'mr2 1 1' 'X 1 1 1 oak 99 999999999' 'E'
     has 'it is void' 'errors oak' 'oak errors' 'T 1-1 cancel 99-999999999'
     blank 2 1
     brings 'a cancel of itself' 0 'took 1 writes 0 commits' 'mr2 1 1' 'X 1 1 1 oak 1 1' 'E'
     has 'it is void too' 'outcome oak 1-1' '1-1 T void 1-1'
+    has 'the sheet of a void cancel' 'sheet oak 1995-12-18' 'oak 1995-12-18 Monday' '(no bookings)'
 }
 
 run_edge_lines() {
@@ -81,6 +88,7 @@ run_edge_lines() {
     has 'the sheet of that title' 'sheet oak 1995-12-18' 'oak 1995-12-18 Monday' '09:00-09:30 T 1-1 1995-12-18 10:00 x'
     blank 2 1
     brings 'a commit twice' 0 'took 1 writes 1 commits' 'mr1 1 1' "W 1 1 1 $slot 0 Alpha" 'C 1 1 1' 'C 1 1 1' 'E'
+    has 'the sheet of a commit twice' 'sheet oak 1995-12-18' 'oak 1995-12-18 Monday' '09:00-09:30 C 1-1 Alpha'
 }
 
 # a batch of two writes, cut after each of its bytes: the writes whose lines are whole are known, and no others

@@ -180,6 +180,7 @@ refused_move() {
 }
 
 run_moved_inits() {
+    local number
     first_tables init
     expect_line 'moved: init of another server' 1 'refused 26 NotAReplica' init "$database" 8 3
     expect_line 'moved: init of another primary' 1 'refused 26 NotAReplica' init "$database" 7 1
@@ -189,8 +190,10 @@ run_moved_inits() {
         echo 'skipped: first tables that stand for no replica (no sqlite3)'
         return
     fi
-    rows 'moved: the schema after init' 'SELECT schema FROM meta' 2
-    refused_move 'moved: a schema that is none' 'refused 26 NotAReplica' 'UPDATE meta SET schema = 3'
+    rows 'moved: the schema and the tables after init' "SELECT schema, (SELECT count(*) FROM sqlite_schema WHERE type = 'table') FROM meta" '2|10'
+    for number in 3 0 -1 4294967297; do
+        refused_move "moved: a schema $number" 'refused 26 NotAReplica' "UPDATE meta SET schema = $number"
+    done
     refused_move 'moved: the number of the second schema on the first tables' 'refused 26 NotAReplica' 'UPDATE meta SET schema = 2'
     refused_move 'moved: a write without a place' 'refused 25 Store' 'DELETE FROM undo WHERE n = 5'
     refused_move 'moved: a place without a write' 'refused 25 Store' 'INSERT INTO undo VALUES (9, 9, 0)'

@@ -4,8 +4,8 @@
     peers.py PROGRAM FOLDER
 
 `exchange` with a peer whose reply to a pull ends after each of its bytes, with one that breaks the connection after each byte of each
-of its replies, with one whose reply is none, and with one that knows the first exchange text alone; a submission to a served database
-by clients that go away at once. What was taken stays; what was answered is there. And the three requests of an exchange are those of the
+of its replies, with one whose reply is none, with one that knows the first exchange text alone, and with one that is no peer to hand anything; a submission to a
+served database by clients that go away at once. What was taken stays; what was answered is there. And the three requests of an exchange are those of the
 formats, byte by byte, at addresses of each kind. The last line counts.
 """
 
@@ -127,17 +127,51 @@ class Tried:
                             ('version 1.0', whole.replace(b'1.1', b'1.0', 1)),
                             ('two lengths', whole.replace(b'\r\n', b'\r\nContent-Length: 106\r\n', 1)),
                             ('a length of eleven digits', head(0).replace(b': 0', b': 00000000000')), ('a great length', head(1048577)),
+                            ('a refusal that is cut', head(3, b'409 Conflict') + b'{}'), ('a request', b'GET / HTTP/1.1\r\n\r\n'),
                             ('a great head', b'HTTP/1.1 200 OK\r\nX: ' + b'y' * 9000 + b'\r\n\r\n'), ('another text', b'220 ready\r\n')):
             self.exchange(f'a peer that sends {name}', fault, 3, 0, pull=reply)
         self.exchange('a peer that refuses', b'peer answered 503\n', 1, 0, pull=head(0, b'503 Service Unavailable'))
+        self.exchange('a peer that refuses in a body', b'peer answered 409\n', 1, 0, pull=head(2, b'409 Conflict') + b'{}')
+        self.exchange('a peer that refuses without words', b'peer answered 404\n', 1, 0, pull=b'HTTP/1.1 404\r\nContent-Length: 0\r\n\r\n')
         self.exchange('a peer with a bad line', b'refused 15 BadLine 1\n', 1, 0, pull=head(2) + b'x\n')
+        self.exchange('a peer with half a header', b'refused 15 BadLine 1\n', 1, 0, pull=head(5) + b'mr1 \n')
         self.exchange('a peer of another primary', b'refused 16 WrongPrimary\n', 1, 0, pull=head(10) + b'mr1 1 2\nE\n')
-        pulled = b'pulled 2 writes 0 commits\n'
-        self.exchange('a position that is none', pulled + fault, 3, 2, pull=whole, position=head(2) + b'x\n')
-        self.exchange('a position cut', pulled + fault, 3, 2, pull=whole, position=head(len(POSITION)) + POSITION[:-1])
-        self.exchange('a push answered with another text', pulled + fault, 3, 2, pull=whole, push=head(3) + b'ok\n')
-        self.exchange('a push answered with a great number', pulled + fault, 3, 2, pull=whole,
-                      push=head(43) + b'took 18446744073709551616 writes 0 commits\n')
+
+    def bad_positions(self):
+        whole, pulled, fault = head(len(BATCH)) + BATCH, b'pulled 2 writes 0 commits\n', b'fault network\n'
+        for name, position in (('none', head(2) + b'x\n'), ('cut', head(len(POSITION)) + POSITION[:-1]),
+                               ('with two bytes behind it', head(len(POSITION) + 2) + POSITION + b'..'),
+                               ('chunked', b'HTTP/1.1 200 OK\r\nTransfer-Encoding: chunked\r\nContent-Length: 14\r\n\r\nmp2 2 1\nK 0\nE\n'),
+                               ('of version 1.0', b'HTTP/1.0 200 OK\r\nContent-Length: 14\r\n\r\nmp1 2 1\nK 0\nE\n'),
+                               ('of a third version', head(14) + b'mp3 2 1\nK 0\nE\n')):
+            self.exchange(f'a position {name}', pulled + fault, 3, 2, pull=whole, position=position)
+        self.exchange('no position', pulled + b'peer answered 404\n', 1, 2, pull=whole, position=head(14, b'404 Not Found') + b'mp1 2 1\nK 0\nE\n')
+
+    def bad_counts(self):
+        whole, pulled, fault = head(len(BATCH)) + BATCH, b'pulled 2 writes 0 commits\n', b'fault network\n'
+        for name, push in (('another text', head(3) + b'ok\n'), ('a great number', head(43) + b'took 18446744073709551616 writes 0 commits\n'),
+                           ('a line without its end', head(24) + b'took 64 writes 0 commits\n'), ('a line that is cut', head(26) + b'took 64 writes 0 commits\n'),
+                           ('a zero before a number', head(25) + b'took 064 writes 0 commit\n')):
+            self.exchange(f'a push answered with {name}', pulled + fault, 3, 2, pull=whole, push=push)
+        self.exchange('a push answered with the greatest number', pulled + b'pushed 18446744073709551615 writes 1 commits\n', 0, 2, pull=whole,
+                      push=head(43) + b'took 18446744073709551615 writes 1 commits\n')
+        self.exchange('a push that is refused', pulled + b'peer answered 503\n', 1, 2, pull=whole, push=head(0, b'503 Service Unavailable'))
+
+    def refused_pushes(self):
+        """A replica that dropped the one commit that it knows has no batch for a peer without it, nor for one of another primary: none is sent."""
+        empty(self.folder)
+        done(self.program, 'init', self.file, 9, 1)
+        committed = b'mr1 1 1\nW 1 1 1 oak 60 1995-12-18 14:00 0 Alpha\nC 1 1 1\nE\n'
+        with open(f'{self.folder}/batch', 'wb') as out:
+            out.write(committed)
+        done(self.program, 'import', self.file, f'{self.folder}/batch')
+        done(self.program, 'truncate', self.file, 1)
+        for position, refusal in ((b'mp2 2 1\nK 0\nE\n', b'refused 22 Truncated\n'), (b'mp2 2 3\nK 0\nE\n', b'refused 16 WrongPrimary\n')):
+            peer = Peer(pull=head(len(committed)) + committed, position=head(len(position)) + position)
+            printed = call(self.program, 'exchange', self.file, f'http://127.0.0.1:{peer.port}/')
+            peer.end()
+            self.told(f'a push for {position}: {printed}', printed == (b'pulled 0 writes 0 commits\n' + refusal, 1))
+            self.told(f'what was asked then: {peer.asked}', [it.split(b' ')[1] for it in peer.asked] == [b'/pull', b'/position'])
 
     def first_peers(self):
         """A peer whose batch and position are of the first version is pulled from, and handed what that version can say."""
@@ -152,6 +186,7 @@ class Tried:
         printed = call(self.program, *words)
         self.told(f'a cancel for it: {printed}', printed == (b'pulled 0 writes 0 commits\nrefused 27 NeedsVersion2\n', 1))
         peer.end()
+        self.told('a batch with a cancel is not sent', [it.split(b' ')[1] for it in peer.asked] == [b'/pull', b'/position', b'/push', b'/pull', b'/position'])
         body = b'{"name":"BadPosition","refusal":23}'
         old = Peer(pull=head(len(body), b'400 Bad Request') + body)
         printed = call(self.program, 'exchange', self.file, f'http://127.0.0.1:{old.port}/')
@@ -160,17 +195,18 @@ class Tried:
 
     def requests(self):
         """What is sent, at an address of each kind: its host is named as the address writes it, in small letters, with a port that isn't 80."""
-        for at, address, host in ((('127.0.0.1', 0), '127.0.0.1:{}/', '127.0.0.1:{}'), (('127.0.0.1', 0), 'LocalHost:{}', 'localhost:{}'),
-                                  (('127.7.8.9', 80), '127.7.8.9', '127.7.8.9'), (('::1', 0), '[::1]:{}/', '[::1]:{}')):
+        for at, address, host in ((('127.0.0.1', 0), 'http://127.0.0.1:{}/', '127.0.0.1:{}'), (('127.0.0.1', 0), 'HTTP://LocalHost:{}', 'localhost:{}'),
+                                  (('127.0.0.1', 0), 'http://127.1:{}/', '127.0.0.1:{}'), (('127.7.8.9', 80), 'http://127.7.8.9', '127.7.8.9'),
+                                  (('127.7.8.9', 80), 'http://127.7.8.9:80/', '127.7.8.9'), (('::1', 0), 'http://[::1]:{}/', '[::1]:{}')):
             empty(self.folder)
             done(self.program, 'init', self.file, 9, 1)
             batch, position, own = b'mr2 1 1\nE\n', b'mp2 1 1\nK 0\nE\n', b'mp2 9 1\nK 0\nE\n'
             try:
                 peer = Peer(head(len(batch)) + batch, head(len(position)) + position, at=at)
             except OSError as error:
-                print(f'skipped: requests to http://{address.format("PORT")} ({error.strerror})')
+                print(f'skipped: requests to {address.format("PORT")} ({error.strerror})')
                 continue
-            url, named = f'http://{address.format(peer.port)}', host.format(peer.port).encode()
+            url, named = address.format(peer.port), host.format(peer.port).encode()
             printed = call(self.program, 'exchange', self.file, url)
             peer.end()
             self.told(f'an exchange with {url}: {printed}', printed == (b'pulled 0 writes 0 commits\npushed 0 writes 0 commits\n', 0))
@@ -209,6 +245,9 @@ def main():
     tried.cut_pulls()
     tried.broken_connections()
     tried.bad_peers()
+    tried.bad_positions()
+    tried.bad_counts()
+    tried.refused_pushes()
     tried.first_peers()
     tried.requests()
     tried.leaving_clients()

@@ -374,6 +374,8 @@ run_exchanged_cancels() {
     printf 'pulled 1 writes 0 commits\npushed 1 writes 0 commits\n' > "$folder/first"
     printf 'pulled 0 writes 0 commits\npushed 2 writes 0 commits\n' > "$folder/cancels"
     printf 'pulled 1 writes 5 commits\npushed 0 writes 0 commits\n' > "$folder/commits"
+    printf 'pulled 4 writes 0 commits\npushed 0 writes 0 commits\n' > "$folder/pulled"
+    printf 'pulled 0 writes 0 commits\npushed 0 writes 0 commits\n' > "$folder/nothing"
     expect_line 'init of an office whose request is cancelled' 0 'ok' init "$folder/one.db" 1 1
     expect_line 'init of an office that cancels' 0 'ok' init "$folder/two.db" 2 1
     expect_line 'a room of the first of them' 0 'ok' add-room "$folder/one.db" oak
@@ -392,6 +394,12 @@ run_exchanged_cancels() {
     shows_two 'the sheet without it' 'oak 1995-12-18 Monday' '16:00-17:00 T 2-1 Beta'
     words=(errors oak)
     shows_two 'the void cancel' 'oak errors' 'T 2-3 cancel 1-1'
+    expect_line 'init of an office that hears of cancels' 0 'ok' init "$folder/three.db" 3 1
+    serve "$folder/one.db" 6
+    expect 'an exchange that pulls cancels' 0 "$folder/pulled" exchange "$folder/three.db" "http://127.0.0.1:$port/"
+    expect 'the same again' 0 "$folder/nothing" exchange "$folder/three.db" "http://127.0.0.1:$port/"
+    served 'the lines of both exchanges' 200 200 200 200 200 200
+    expect_line 'what was cancelled, once it was pulled' 0 '1-1 T cancelled T 2-2' outcome "$folder/three.db" oak 1-1
     expect_line 'its slot is booked again' 0 '1-2 T 1995-12-18 14:00-15:00' book "$folder/one.db" oak 60 1995-12-18 14:00 Gamma
     expect_line 'the primary commits all of it' 0 'committed 5' commit "$folder/one.db" 10
     expect 'a bridge after that' 0 "$folder/commits" bridge "$folder/two.db" "$folder/one.db"
@@ -434,7 +442,19 @@ PYTHON
     wait "$server" 2> /dev/null
 }
 
+# whole replies to the bytes of requests
+run_whole_replies() {
+    if ! command -v python3 > /dev/null; then
+        echo 'skipped: tests/http/replies.py (no python3)'
+        return
+    fi
+    mkdir "$scratch/replies"
+    PYTHONDONTWRITEBYTECODE=1 python3 tests/http/replies.py "$program" "$scratch/replies" 2>&1 | tee "$scratch/out"
+    count_of 'tests/http/replies.py' "$scratch/out"
+}
+
 run_http() {
+    run_whole_replies
     if command -v curl > /dev/null; then
         run_served
         run_cancelled

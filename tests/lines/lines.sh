@@ -66,4 +66,17 @@ run_outputs() {
     exec 4>&-
     ./rooms nothing > /dev/full 2> "$scratch/err"
     told 'a full output and bad words' $? 3 "$scratch/empty"
+    ./rooms init "$scratch/outputs.db" 1 1 > /dev/full 2> "$scratch/err"
+    told 'a full output and an init' $? 3 "$scratch/empty"
+    ./rooms add-room "$scratch/outputs.db" oak > /dev/full 2> "$scratch/err"
+    told 'a full output and a reply' $? 3 "$scratch/empty"
+    ./rooms sheet "$scratch/outputs.db" oak 1995-12-32 > /dev/full 2> "$scratch/err"
+    told 'a full output and a refusal' $? 3 "$scratch/empty"
+    ./rooms sheet "$scratch/absent.db" oak 1995-12-18 > /dev/full 2> "$scratch/err"
+    told 'a full output and no database' $? 3 "$scratch/empty"
+    ./rooms position "$scratch/outputs.db" > "$scratch/position" 2> "$scratch/err"
+    ./rooms export "$scratch/outputs.db" "$scratch/position" "$scratch/batch" 10 > /dev/full 2> "$scratch/err"
+    told 'a full output and an export' $? 3 "$scratch/empty"
+    ./rooms exchange "$scratch/outputs.db" nowhere > /dev/full 2> "$scratch/err"
+    told 'a full output and a bad address' $? 3 "$scratch/empty"
 }

@@ -7,7 +7,7 @@ use std::alloc::{AllocError, Global};
 
 pub(crate) const MONDAY: &str = "1995-12-18";
 
-/// A command. If it names no room it is oak, and if it names no day it is Monday.
+/// A command. If it names no room it is oak, and the day is Monday.
 #[derive(Clone, Copy)]
 pub(crate) enum Act {
     Room(&'static str),
@@ -29,14 +29,9 @@ pub(crate) enum Act {
     /// The same writes without the commits.
     TentativeElm,
     Sheet,
-    SheetOf(&'static str, &'static str),
     Calendar(CalendarPart),
     Outcome(&'static str),
     Errors,
-    /// These of any room.
-    CalendarOf(&'static str, CalendarPart),
-    OutcomeOf(&'static str, &'static str),
-    ErrorsOf(&'static str),
 }
 
 fn text(alloc: Global, text: &str) -> Result<String, AllocError> {
@@ -76,24 +71,24 @@ fn booking(
     }))
 }
 
-fn sheet(alloc: Global, room: &str, day: &str) -> Result<Local, AllocError> {
-    let room = text(alloc, room)?;
+fn sheet(alloc: Global) -> Result<Local, AllocError> {
+    let room = text(alloc, "oak")?;
     Ok(Local::Sheet {
         room,
-        day: text(alloc, day)?,
+        day: text(alloc, MONDAY)?,
     })
 }
 
-fn outcome(alloc: Global, room: &str, id: &str) -> Result<Local, AllocError> {
-    let room = text(alloc, room)?;
+fn outcome(alloc: Global, id: &str) -> Result<Local, AllocError> {
+    let room = text(alloc, "oak")?;
     Ok(Local::Outcome {
         room,
         id: text(alloc, id)?,
     })
 }
 
-fn calendar(alloc: Global, room: &str, part: CalendarPart) -> Result<Local, AllocError> {
-    let room = text(alloc, room)?;
+fn calendar(alloc: Global, part: CalendarPart) -> Result<Local, AllocError> {
+    let room = text(alloc, "oak")?;
     Ok(Local::Calendar { room, part })
 }
 
@@ -140,17 +135,11 @@ fn local(alloc: Global, act: Act) -> Result<Local, Refusal> {
         Act::Commit(count) => Ok(Local::Commit(count)),
         Act::Truncate(number) => Ok(Local::Truncate(number)),
         Act::BatchFor(position, lines) => batch_for(position.as_bytes().to_vec(alloc)?, lines),
-        Act::Sheet => Ok(sheet(alloc, "oak", MONDAY)?),
-        Act::SheetOf(room, day) => Ok(sheet(alloc, room, day)?),
-        Act::Calendar(part) => Ok(calendar(alloc, "oak", part)?),
-        Act::CalendarOf(room, part) => Ok(calendar(alloc, room, part)?),
-        Act::Outcome(id) => Ok(outcome(alloc, "oak", id)?),
-        Act::OutcomeOf(room, id) => Ok(outcome(alloc, room, id)?),
+        Act::Sheet => Ok(sheet(alloc)?),
+        Act::Calendar(part) => Ok(calendar(alloc, part)?),
+        Act::Outcome(id) => Ok(outcome(alloc, id)?),
         Act::Errors => Ok(Local::Errors {
             room: text(alloc, "oak")?,
-        }),
-        Act::ErrorsOf(room) => Ok(Local::Errors {
-            room: text(alloc, room)?,
         }),
         _ => Ok(Local::Position),
     }

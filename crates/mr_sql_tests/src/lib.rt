@@ -14,8 +14,6 @@ mod first_files;
 #[cfg(test)]
 mod firsts;
 #[cfg(test)]
-mod hostile_tests;
-#[cfg(test)]
 mod in_memory_tests;
 #[cfg(test)]
 mod layouts;

@@ -1,6 +1,7 @@
-// Tables of the first schema are moved up: what is seen of the replica stays, and it goes on as any other. The memory is ample.
+// Tables of the first schema in memory are moved up: what is seen of the replica stays, and it goes on as any other. The memory is ample. Of files
+// the program is asked this (tests/files/moved.sh).
 
-use crate::acts::{Act, MONDAY, said};
+use crate::acts::{Act, said};
 use crate::firsts::first_tables;
 use crate::layouts::schema;
 use crate::offices::{Offices, opened};
@@ -31,40 +32,6 @@ static OF_ELM: [Reply; 3] = [
     (Act::Elm, "took 50 writes 50 commits\n"),
     (Act::Truncate(50), "dropped 50\n"),
     (Act::Batch(TWO), "took 2 writes 0 commits\n"),
-];
-
-/// What is seen of them.
-static SEEN_OF_ELM: [Reply; 12] = [
-    (
-        Act::Sheet,
-        "oak 1995-12-18 Monday\n14:00-15:00 T 1-1 Alpha\n15:00-16:00 T 2-1 Beta\n",
-    ),
-    (
-        Act::Calendar(CalendarPart::Full),
-        "oak full\n1995-12-18 14:00-15:00 T 1-1 Alpha\n1995-12-18 15:00-16:00 T 2-1 Beta\n",
-    ),
-    (
-        Act::Calendar(CalendarPart::Committed),
-        "oak committed\n(no bookings)\n",
-    ),
-    (Act::Outcome("1-1"), "1-1 T 1995-12-18 14:00-15:00\n"),
-    (Act::Outcome("2-1"), "2-1 T 1995-12-18 15:00-16:00\n"),
-    (Act::Errors, "oak errors\n(no errors)\n"),
-    (
-        Act::SheetOf("elm", MONDAY),
-        "elm 1995-12-18 Monday\n09:00-09:15 C 3-1 Elm\n",
-    ),
-    (
-        Act::CalendarOf("elm", CalendarPart::Committed),
-        "elm committed\n1995-12-18 09:00-09:15 C 3-1 Elm\n",
-    ),
-    (
-        Act::OutcomeOf("elm", "3-1"),
-        "3-1 C 1995-12-18 09:00-09:15\n",
-    ),
-    (Act::OutcomeOf("elm", "3-2"), "3-2 C logged\n"),
-    (Act::OutcomeOf("elm", "3-50"), "3-50 C logged\n"),
-    (Act::OutcomeOf("elm", "1-1"), "refused 9 NoSuchRequest\n"),
 ];
 
 /// A replica that has dropped two committed writes of the primary.
@@ -106,7 +73,7 @@ fn raised(alloc: Global, tables: &First) -> Result<Service<SqlKeeper<MemStore>>,
     }
 }
 
-/// Both replicas reply alike to all that the rows ask, and as the rows say; they have one position and, of both rooms, one error log.
+/// Both replicas reply alike to all that the rows ask, and as the rows say; they have one position.
 fn check_alike<K: Keeper, L: Keeper>(
     rt: &impl Abort,
     alloc: Global,
@@ -115,9 +82,11 @@ fn check_alike<K: Keeper, L: Keeper>(
 ) {
     check(rt, alloc, before, replies);
     check(rt, alloc, after, replies);
-    for act in [Act::Position, Act::Errors, Act::ErrorsOf("elm")] {
-        same_texts(rt, &said(alloc, before, act), &said(alloc, after, act));
-    }
+    same_texts(
+        rt,
+        &said(alloc, before, Act::Position),
+        &said(alloc, after, Act::Position),
+    );
 }
 
 /// Replica 9 with the writes of elm and oak.
@@ -160,12 +129,6 @@ fn check_moved(
     let mut after = raised(alloc, &tables).expect(rt, "a moved replica");
     check_alike::<ListKeeper, SqlKeeper<MemStore>>(rt, alloc, (&mut before, &mut after), replies);
     check::<SqlKeeper<MemStore>>(rt, alloc, &mut after, then);
-}
-
-#[test]
-fn dropped_writes_keep_their_rows(rt: HostRuntime) {
-    let before = with_elm(&rt, rt.alloc());
-    check_moved(&rt, rt.alloc(), before, &SEEN_OF_ELM, &[]);
 }
 
 #[test]
@@ -308,31 +271,6 @@ static OF_OTHERS: [Trial; 5] = [
 #[test]
 fn others_find_the_first_tables_as_they_were(rt: HostRuntime) {
     check_trials(&rt, rt.alloc(), &OF_OTHERS);
-}
-
-/// Numbers of the schema that are none of the tables'.
-static OF_OTHER_SCHEMAS: [Trial; 16] = [
-    Trial::Execute("UPDATE meta SET schema = 2"),
-    Trial::Adopt(2, 1, 26),
-    Trial::Execute("UPDATE meta SET schema = 0"),
-    Trial::Adopt(2, 1, 26),
-    Trial::Execute("UPDATE meta SET schema = -1"),
-    Trial::Adopt(2, 1, 26),
-    Trial::Execute("UPDATE meta SET schema = 4294967297"),
-    Trial::Adopt(2, 1, 26),
-    Trial::Execute("UPDATE meta SET schema = 1"),
-    Trial::Adopt(2, 1, 0),
-    Trial::Execute("UPDATE meta SET schema = 1"),
-    Trial::Adopt(2, 1, 26),
-    Trial::Execute("UPDATE meta SET schema = 3"),
-    Trial::Adopt(2, 1, 26),
-    Trial::Execute("UPDATE meta SET schema = -2"),
-    Trial::Adopt(2, 1, 26),
-];
-
-#[test]
-fn other_schemas_are_no_replicas(rt: HostRuntime) {
-    check_trials(&rt, rt.alloc(), &OF_OTHER_SCHEMAS);
 }
 
 static RESUMED: [Trial; 6] = [

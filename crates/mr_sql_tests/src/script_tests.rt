@@ -1,13 +1,11 @@
-// The scripts over lists, over lists that load no desk, and over a database in memory; and the desks that are loaded afterwards. The memory
-// is ample.
+// The scripts over lists that load no desk; and, over lists and over a database in memory, the desks that are loaded afterwards. The memory is ample.
 
 use crate::acts::{Act, said};
 use crate::offices::{Offices, opened};
 use crate::opening::Opening;
 use crate::same_text::{same_text, same_texts};
 use crate::scripts::{
-    BOOKED, CHAIN, COMMITTED_FIRST, EMPTY, ENDS, EQUAL_TIMES, LONGEST, MADE_VOID, MET, Row,
-    TAKEN_BACK, TOUCHING, TRUNCATED, TURNED,
+    CHAIN, COMMITTED_FIRST, EQUAL_TIMES, MADE_VOID, MET, Row, TAKEN_BACK, TRUNCATED, TURNED,
 };
 use crate::without_desk::WithoutDesk;
 use mr_base::Refusal;
@@ -29,14 +27,9 @@ fn check_new<K: Opening + Drop>(rt: &impl Abort, alloc: Global, script: &[Row]) 
 
 fn check_all<K: Opening + Drop>(rt: &impl Abort, alloc: Global) {
     for script in [
-        &BOOKED[..],
-        &EMPTY[..],
-        &TOUCHING[..],
         &EQUAL_TIMES[..],
         &TURNED[..],
         &CHAIN[..],
-        &LONGEST[..],
-        &ENDS[..],
         &TRUNCATED[..],
         &MET[..],
         &TAKEN_BACK[..],
@@ -48,18 +41,8 @@ fn check_all<K: Opening + Drop>(rt: &impl Abort, alloc: Global) {
 }
 
 #[test]
-fn scripts_over_lists(rt: HostRuntime) {
-    check_all::<ListKeeper>(&rt, rt.alloc());
-}
-
-#[test]
 fn scripts_need_no_desk(rt: HostRuntime) {
     check_all::<WithoutDesk>(&rt, rt.alloc());
-}
-
-#[test]
-fn scripts_over_a_database(rt: HostRuntime) {
-    check_all::<SqlKeeper<MemStore>>(&rt, rt.alloc());
 }
 
 /// The text of the position of the desk that is loaded.

@@ -1,6 +1,6 @@
-// Scripts of offices with each reply, worked by hand. The primary is office 1.
+// Scripts of offices with each reply, worked by hand. The primary is office 1. The program is asked these and others (tests/scripts).
 
-use crate::acts::{Act, MONDAY};
+use crate::acts::Act;
 use crate::offices::Step;
 use mr_service::CalendarPart;
 
@@ -25,45 +25,6 @@ const BRIEF: Row = (
     Step::At(1, Act::Book("30", "14:30", &[], "Brief")),
     "1-2 T 1995-12-18 14:30-15:00\n",
 );
-
-/// All of Monday.
-const CLOSED: Row = (
-    Step::At(1, Act::Book("1440", "00:00", &[], "Closed")),
-    "1-1 T 1995-12-18 00:00-24:00\n",
-);
-
-/// A booking stands on its sheet.
-pub(crate) static BOOKED: [Row; 3] = [
-    OAK_AT_1,
-    (
-        Step::At(1, Act::Book("60", "13:30", &[], "Budget Meeting")),
-        "1-1 T 1995-12-18 13:30-14:30\n",
-    ),
-    (
-        Step::At(1, Act::Sheet),
-        "oak 1995-12-18 Monday\n13:30-14:30 T 1-1 Budget Meeting\n",
-    ),
-];
-
-/// An empty sheet, a day that no year has, and an unknown room.
-pub(crate) static EMPTY: [Row; 4] = [
-    (Step::At(1, Act::Room("elm")), "ok\n"),
-    (
-        Step::At(1, Act::SheetOf("elm", "2024-02-29")),
-        "elm 2024-02-29 Thursday\n(no bookings)\n",
-    ),
-    (
-        Step::At(1, Act::SheetOf("elm", "2023-02-29")),
-        "refused 1 BadDay\n",
-    ),
-    (
-        Step::At(1, Act::SheetOf("ash", "2024-02-29")),
-        "refused 7 UnknownRoom\n",
-    ),
-];
-
-/// Meetings that touch.
-pub(crate) static TOUCHING: [Row; 3] = [OAK_AT_1, AUDIT, BRIEF];
 
 const SHEET_OF_EQUAL_TIMES: &str =
     "oak 1995-12-18 Monday\n14:00-15:00 T 1-1 Alpha\n15:00-16:00 T 2-1 Beta\n";
@@ -146,50 +107,6 @@ pub(crate) static CHAIN: [Row; 10] = [
         "oak errors\nT 2-2 1995-12-18 10:00-11:00 Beta\n",
     ),
     (Step::At(2, Act::Outcome("2-2")), "2-2 T logged\n"),
-];
-
-const EIGHT: [&str; 8] = [
-    "09:00", "10:00", "11:00", "12:00", "13:00", "14:00", "15:00", "16:00",
-];
-
-const SIXTEEN: [&str; 16] = [
-    "06:00", "07:00", "08:00", "09:00", "10:00", "11:00", "12:00", "13:00", "14:00", "15:00",
-    "16:00", "17:00", "18:00", "19:00", "20:00", "21:00",
-];
-
-const SEVENTEEN: [&str; 17] = [
-    "06:00", "07:00", "08:00", "09:00", "10:00", "11:00", "12:00", "13:00", "14:00", "15:00",
-    "16:00", "17:00", "18:00", "19:00", "20:00", "21:00", "22:00",
-];
-
-/// The longest list of alternatives that the first exchange text says, the longest of all, none of them free, and one more alternative.
-pub(crate) static LONGEST: [Row; 11] = [
-    OAK_AT_1,
-    CLOSED,
-    (
-        Step::At(1, Act::Book("60", "08:00", &EIGHT, "Full")),
-        "1-2 T logged\n",
-    ),
-    (
-        Step::At(1, Act::Errors),
-        "oak errors\nT 1-2 1995-12-18 08:00-09:00 Full\n",
-    ),
-    (
-        Step::At(1, Act::Book("60", "05:00", &SIXTEEN, "Fuller")),
-        "1-3 T logged\n",
-    ),
-    (
-        Step::At(1, Act::Book("60", "05:00", &SEVENTEEN, "Fullest")),
-        "refused 6 TooManyAlternatives\n",
-    ),
-    (Step::Batch(1, 2, 2), "batch 1 228 bytes\n"),
-    (Step::Batch(1, 2, 3), "batch 2 542 bytes\n"),
-    (
-        Step::At(1, Act::BatchFor(NOTHING, 3)),
-        "refused 27 NeedsVersion2\n",
-    ),
-    (Step::Deliver(2, 2), "took 3 writes 0 commits\n"),
-    (Step::At(2, Act::Outcome("1-3")), "1-3 T logged\n"),
 ];
 
 const ALPHA: Row = (
@@ -287,28 +204,6 @@ pub(crate) static COMMITTED_FIRST: [Row; 8] = [
     ),
 ];
 
-/// The ends of a day.
-pub(crate) static ENDS: [Row; 6] = [
-    OAK_AT_1,
-    CLOSED,
-    (
-        Step::At(1, Act::Book("1440", "00:01", &[], "Late")),
-        "refused 3 BadLength\n",
-    ),
-    (
-        Step::At(1, Act::Book("1", "24:00", &[], "Late")),
-        "refused 2 BadTime\n",
-    ),
-    (
-        Step::At(1, Act::Book("2", "23:59", &[], "Late")),
-        "refused 3 BadLength\n",
-    ),
-    (
-        Step::At(1, Act::Sheet),
-        "oak 1995-12-18 Monday\n00:00-24:00 T 1-1 Closed\n",
-    ),
-];
-
 /// Committed writes are dropped, and an office that lacks them turns to the primary.
 pub(crate) static TRUNCATED: [Row; 14] = [
     OAK_AT_1,
@@ -359,7 +254,7 @@ pub(crate) static MET: [Row; 15] = [
     (Step::Batch(1, 2, 10), "batch 3 26 bytes\n"),
     (Step::Deliver(3, 2), "took 0 writes 2 commits\n"),
     (
-        Step::At(2, Act::SheetOf("oak", MONDAY)),
+        Step::At(2, Act::Sheet),
         "oak 1995-12-18 Monday\n09:00-09:30 C 1-1 Planning\n",
     ),
     (

@@ -1,20 +1,20 @@
-// Requests and replies, byte for byte. The memory is ample. What a test compares is made by functions without clauses, so that its proof
-// carries no state of a replica.
+// What a peer's replies are taken for, where the program prints one line for several faults; rounds for programs of others; and readers and writers that fail.
+// The memory is ample. What a test compares is made by functions without clauses, so that its proof carries no state of a replica. Of sockets the
+// program is asked this (tests/hostile/peers.py).
 
 use crate::connections::{Drip, check_front, writer_of};
 use crate::same::{same, same_bytes};
 use mr_base::{Ending, Position, Refusal, ServerId};
 use mr_http::WebFault;
-use mr_peer::{position_ask, position_take, pull, pull_ask, pull_take, push, push_ask, push_take};
-use mr_service::{Command, Local, Service};
+use mr_peer::{position_take, pull, pull_ask, pull_take, push, push_take};
+use mr_service::{Command, Service};
 use mr_store::ListKeeper;
 use std::alloc::Global;
 use std::process::Abort;
 
-pub(crate) const BATCH: &[u8] =
-    b"mr2 1 1\nW 1 1 1 oak 60 1995-12-18 14:00 0 Alpha\nW 2 1 1 oak 60 1995-12-18 13:30 1 1995-12-18 15:00 Beta\nE\n";
-
-const HEAD: &[u8] = b"HTTP/1.1 200 OK\r\nContent-Length: 106\r\n\r\n";
+// The reply of a peer that hands over a batch of two writes.
+const WHOLE: &[u8] =
+    b"HTTP/1.1 200 OK\r\nContent-Length: 106\r\n\r\nmr2 1 1\nW 1 1 1 oak 60 1995-12-18 14:00 0 Alpha\nW 2 1 1 oak 60 1995-12-18 13:30 1 1995-12-18 15:00 Beta\nE\n";
 
 fn server(rt: &impl Abort, number: u32) -> ServerId {
     ServerId::new(number).expect(rt, "a server")
@@ -31,27 +31,7 @@ pub(crate) fn give(service: &mut Service<ListKeeper>, command: Command) {
     service.ask(&command);
 }
 
-// Gives the replica this batch.
-pub(crate) fn give_batch(
-    rt: &impl Abort,
-    alloc: Global,
-    service: &mut Service<ListKeeper>,
-    batch: &[u8],
-) {
-    let batch = Vec::from_slice(alloc, batch).expect(rt, "memory");
-    give(service, Command::Receive(batch));
-}
-
-// The reply of a peer that hands over the first so many bytes of the batch, though all were promised.
-fn batch_reply(rt: &impl Abort, alloc: Global, size: usize) -> Vec<u8> {
-    let mut bytes = Vec::from_slice(alloc, HEAD).expect(rt, "memory");
-    bytes
-        .extend_from_slice(&BATCH[..size.min(BATCH.len())])
-        .expect(rt, "memory");
-    bytes
-}
-
-pub(crate) fn took_position(alloc: Global, reply: &[u8]) -> Result<Position, WebFault> {
+fn took_position(alloc: Global, reply: &[u8]) -> Result<Position, WebFault> {
     let mut reader = reply;
     position_take(alloc, &mut reader)
 }
@@ -60,29 +40,13 @@ fn position_fault(alloc: Global, reply: &[u8]) -> Option<WebFault> {
     took_position(alloc, reply).err()
 }
 
-pub(crate) fn took_counts(alloc: Global, reply: &[u8]) -> Result<(u64, u64), WebFault> {
+fn took_counts(alloc: Global, reply: &[u8]) -> Result<(u64, u64), WebFault> {
     let mut reader = reply;
     push_take(alloc, &mut reader)
 }
 
-fn position_request(alloc: Global) -> Result<Vec<u8>, WebFault> {
-    let mut writer = Vec::new(alloc);
-    position_ask(alloc, "localhost:8080", &mut writer)?;
-    Ok(writer)
-}
-
-#[test]
-fn asks_for_a_position(rt: HostRuntime) {
-    let want =
-        b"GET /position HTTP/1.1\r\nHost: localhost:8080\r\nConnection: close\r\n\r\n".as_slice();
-    same_bytes(&rt, &position_request(rt.alloc()), want);
-}
-
 // The request of this replica's pull.
-pub(crate) fn pull_request(
-    alloc: Global,
-    service: &mut Service<ListKeeper>,
-) -> Result<Vec<u8>, WebFault> {
+fn pull_request(alloc: Global, service: &mut Service<ListKeeper>) -> Result<Vec<u8>, WebFault> {
     let mut writer = Vec::new(alloc);
     pull_ask(alloc, service, "a", &mut writer)?;
     Ok(writer)
@@ -92,21 +56,13 @@ pub(crate) fn pull_request(
 const FIRST_PULL: &[u8] =
     b"POST /pull HTTP/1.1\r\nHost: a\r\nContent-Length: 14\r\nConnection: close\r\n\r\nmp2 9 1\nK 0\nE\n";
 
-#[test]
-fn asks_for_a_batch(rt: HostRuntime) {
-    let mut service = service(&rt, rt.alloc(), 9);
-    let request = pull_request(rt.alloc(), &mut service);
-    same_bytes(&rt, &request, FIRST_PULL);
-}
-
 // What a replica that knows nothing pulls of the whole batch.
 fn pulled_whole(
     rt: &impl Abort,
     alloc: Global,
     service: &mut Service<ListKeeper>,
 ) -> Result<(u64, u64, Ending), WebFault> {
-    let reply = batch_reply(rt, alloc, 106);
-    let mut reader = reply.as_slice();
+    let mut reader = WHOLE;
     let mut writer = Vec::new(alloc);
     let pulled = pull(alloc, service, "a", &mut reader, &mut writer);
     same(rt, &writer.as_slice(), &FIRST_PULL, "what is sent");
@@ -163,53 +119,6 @@ fn check_pushed(
     same(rt, &writer.as_slice(), &want, "the request");
 }
 
-// What this replica answers when it is to push to a peer at that position.
-pub(crate) fn pushed_to(
-    alloc: Global,
-    service: &mut Service<ListKeeper>,
-    told: &[u8],
-) -> Result<Ending, WebFault> {
-    let position = took_position(alloc, told)?;
-    let mut writer = Vec::new(alloc);
-    let asked = push_ask(alloc, service, &position, "a", &mut writer);
-    if writer.is_empty() {
-        asked
-    } else {
-        Err(WebFault::Write)
-    }
-}
-
-// A replica that has dropped the one committed write that it knows.
-fn truncated(rt: &impl Abort, alloc: Global) -> Service<ListKeeper> {
-    let mut service = service(rt, alloc, 9);
-    let batch = b"mr1 1 1\nW 1 1 1 oak 60 1995-12-18 14:00 0 Alpha\nC 1 1 1\nE\n".as_slice();
-    give_batch(rt, alloc, &mut service, batch);
-    give(&mut service, Command::Local(Local::Truncate(1)));
-    service
-}
-
-// What a peer tells as its position, and why there is no batch for it.
-static REFUSED_PUSHES: [(&[u8], Refusal); 2] = [
-    (
-        b"HTTP/1.1 200 OK\r\nContent-Length: 14\r\n\r\nmp2 2 1\nK 0\nE\n",
-        Refusal::Truncated,
-    ),
-    (
-        b"HTTP/1.1 200 OK\r\nContent-Length: 14\r\n\r\nmp2 2 3\nK 0\nE\n",
-        Refusal::WrongPrimary,
-    ),
-];
-
-// A batch that this replica refuses to make is told, and nothing is written.
-#[test]
-fn refused_pushes(rt: HostRuntime) {
-    let mut service = truncated(&rt, rt.alloc());
-    for (told, refusal) in &REFUSED_PUSHES {
-        let asked = pushed_to(rt.alloc(), &mut service, told);
-        same(&rt, &asked, &Err(WebFault::Own(*refusal)), told);
-    }
-}
-
 static POSITIONS: [(&[u8], WebFault); 6] = [
     (
         b"HTTP/1.1 200 OK\r\nContent-Length: 22\r\n\r\nmp1 1 1\nK 0\nV 1 1\nE\n..",
@@ -255,67 +164,43 @@ fn pulled(rt: &impl Abort, alloc: Global, reply: &[u8]) -> Result<(u64, u64, End
     pull_take(alloc, &mut service, &mut reader)
 }
 
-// What a replica takes of the first so many bytes of the batch.
-fn pulled_front(
-    rt: &impl Abort,
-    alloc: Global,
-    size: usize,
-) -> Result<(u64, u64, Ending), WebFault> {
-    let reply = batch_reply(rt, alloc, size);
-    pulled(rt, alloc, reply.as_slice())
-}
-
-// What stands in the whole lines of the first so many bytes of the batch.
-fn whole_lines(size: usize) -> (u64, u64, Ending) {
-    if size < 48 {
-        (0, 0, Ending::Cut)
-    } else if size < 104 {
-        (1, 0, Ending::Cut)
-    } else if size < 106 {
-        (2, 0, Ending::Cut)
-    } else {
-        (2, 0, Ending::Complete)
-    }
-}
-
-// A body that ends early is a cut batch: its whole lines are taken.
-#[test]
-fn takes_each_front(rt: HostRuntime) {
-    for size in 0..107usize {
-        let pulled = pulled_front(&rt, rt.alloc(), size);
-        same(&rt, &pulled, &Ok(whole_lines(size)), size);
-    }
-}
-
-static PULLS: [(&[u8], WebFault); 7] = [
-    (b"", WebFault::BadReply),
-    (b"HTTP/1.1 200 OK\r\n\r\nmr1 1 1\nE\n", WebFault::BadReply),
+// What a replica that knows nothing takes of replies to its pull: a batch of which one line came whole, and none.
+static PULLS: [(&[u8], Result<(u64, u64, Ending), WebFault>); 8] = [
+    (
+        b"HTTP/1.1 200 OK\r\nContent-Length: 106\r\n\r\nmr2 1 1\nW 1 1 1 oak 60 1995-12-18 14:00 0 Alpha\nW 2 1",
+        Ok((1, 0, Ending::Cut)),
+    ),
+    (b"", Err(WebFault::BadReply)),
+    (
+        b"HTTP/1.1 200 OK\r\n\r\nmr1 1 1\nE\n",
+        Err(WebFault::BadReply),
+    ),
     (
         b"HTTP/1.1 200 OK\r\nContent-Length: 1048577\r\n\r\n",
-        WebFault::BadReply,
+        Err(WebFault::BadReply),
     ),
     (
         b"HTTP/1.1 409 Conflict\r\nContent-Length: 2\r\n\r\n{}",
-        WebFault::Peer(409),
+        Err(WebFault::Peer(409)),
     ),
     (
         b"HTTP/1.1 409 Conflict\r\nContent-Length: 3\r\n\r\n{}",
-        WebFault::BadReply,
+        Err(WebFault::BadReply),
     ),
     (
         b"HTTP/1.1 200 OK\r\nContent-Length: 5\r\n\r\nmr1 \n",
-        WebFault::Own(Refusal::BadLine(1)),
+        Err(WebFault::Own(Refusal::BadLine(1))),
     ),
     (
         b"HTTP/1.1 200 OK\r\nContent-Length: 10\r\n\r\nmr1 1 3\nE\n",
-        WebFault::Own(Refusal::WrongPrimary),
+        Err(WebFault::Own(Refusal::WrongPrimary)),
     ),
 ];
 
 #[test]
-fn refused_pulls(rt: HostRuntime) {
-    for (reply, fault) in &PULLS {
-        same(&rt, &pulled(&rt, rt.alloc(), reply), &Err(*fault), reply);
+fn pulls_told(rt: HostRuntime) {
+    for (reply, told) in &PULLS {
+        same(&rt, &pulled(&rt, rt.alloc(), reply), told, reply);
     }
 }
 
@@ -392,10 +277,8 @@ fn check_whole(rt: &impl Abort, alloc: Global, reply: &[u8]) {
 // One byte a read is enough, and a read that fails leaves the replica as it was.
 #[test]
 fn drips(rt: HostRuntime) {
-    let alloc = rt.alloc();
-    let reply = batch_reply(&rt, alloc, 106);
-    check_each_cut(&rt, alloc, reply.as_slice());
-    check_whole(&rt, alloc, reply.as_slice());
+    check_each_cut(&rt, rt.alloc(), WHOLE);
+    check_whole(&rt, rt.alloc(), WHOLE);
 }
 
 fn check_narrow(

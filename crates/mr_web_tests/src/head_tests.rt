@@ -1,135 +1,20 @@
+// Readers and writers that fail, and what no socket brings. Heads and lengths are asked of the program (tests/http/heads, tests/hostile/peers.py).
+
 use crate::connections::{Drip, check_front, writer_of};
-use crate::same::{same, same_bytes};
+use crate::same::same;
 use httparse::Header;
-use mr_http::{
-    ReadFault, WebFault, body_length, fill_to, read_reply_head, read_request_head, send,
-};
+use mr_http::{ReadFault, WebFault, body_length, fill_to, read_request_head, send};
 use std::alloc::Global;
 use std::process::Abort;
 
-fn request_head(alloc: Global, bytes: &[u8]) -> Result<Option<usize>, ReadFault> {
-    let mut reader = bytes;
-    let mut buffer = Vec::new(alloc);
-    read_request_head(&mut reader, &mut buffer)
-}
-
-fn reply_head(alloc: Global, bytes: &[u8]) -> Result<Option<usize>, ReadFault> {
-    let mut reader = bytes;
-    let mut buffer = Vec::new(alloc);
-    read_reply_head(&mut reader, &mut buffer)
-}
-
-static REQUESTS: [(&[u8], Option<usize>); 6] = [
-    (b"GET / HTTP/1.1\r\n\r\nrest", Some(18)),
-    (b"\r\nGET / HTTP/1.1\nA: b\n\nrest", Some(23)),
-    (b"GET / HTTP/1.0\r\n\r\n", None),
-    (b"GET / HTTP/1.1\r\n", None),
-    (b"HTTP/1.1 200 OK\r\n\r\n", None),
-    (b"", None),
-];
-
+// A length with a space behind it, which no head gives: its fields end without one.
 #[test]
-fn heads_of_requests(rt: HostRuntime) {
-    for (bytes, found) in &REQUESTS {
-        same(&rt, &request_head(rt.alloc(), bytes), &Ok(*found), bytes);
-    }
-}
-
-static REPLIES: [(&[u8], Option<usize>); 5] = [
-    (b"HTTP/1.1 200 OK\r\n\r\nrest", Some(19)),
-    (b"HTTP/1.1 404\r\nA: b\r\n\r\n", Some(22)),
-    (b"HTTP/1.0 200 OK\r\n\r\n", None),
-    (b"HTTP/1.1 200 OK\r\n", None),
-    (b"GET / HTTP/1.1\r\n\r\n", None),
-];
-
-#[test]
-fn heads_of_replies(rt: HostRuntime) {
-    for (bytes, found) in &REPLIES {
-        same(&rt, &reply_head(rt.alloc(), bytes), &Ok(*found), bytes);
-    }
-}
-
-// A head of 23 bytes and so many more.
-fn long_head(alloc: Global, more: usize) -> Result<Vec<u8>, ReadFault> {
-    let mut bytes = Vec::new(alloc);
-    bytes.extend_from_slice(b"GET / HTTP/1.1\r\nA: ")?;
-    for _ in 0..more {
-        bytes.push(b'a')?;
-    }
-    bytes.extend_from_slice(b"\r\n\r\n")?;
-    Ok(bytes)
-}
-
-fn long_head_found(alloc: Global, more: usize) -> Result<Option<usize>, ReadFault> {
-    let bytes = long_head(alloc, more)?;
-    request_head(alloc, bytes.as_slice())
-}
-
-fn check_longest(rt: &impl Abort, alloc: Global, more: usize, found: Option<usize>) {
-    same(rt, &long_head_found(alloc, more), &Ok(found), more);
-}
-
-#[test]
-fn the_longest_head(rt: HostRuntime) {
-    check_longest(&rt, rt.alloc(), 8169, Some(8192));
-    check_longest(&rt, rt.alloc(), 8170, None);
-}
-
-// Whether a body is needed, a field of a head, and the length that it tells.
-static ONE_FIELD: [(bool, &str, &[u8], Option<u64>); 12] = [
-    (true, "Content-Length", b"5", Some(5)),
-    (true, "content-length", b"007", Some(7)),
-    (true, "CONTENT-LENGTH", b"9999999999", Some(9_999_999_999)),
-    (true, "Content-Length", b"10000000000", None),
-    (true, "Content-Length", b"", None),
-    (true, "Content-Length", b"+1", None),
-    (true, "Content-Length", b"1 ", None),
-    (false, "Content-Length", b"0", Some(0)),
-    (false, "Content-Length", b"1", None),
-    (true, "Content-Type", b"5", None),
-    (false, "Content-Type", b"5", Some(0)),
-    (false, "transfer-encoding", b"identity", None),
-];
-
-#[test]
-fn one_length(rt: HostRuntime) {
-    for (needs, name, value, length) in &ONE_FIELD {
-        let fields = [Header { name, value }];
-        same(&rt, &body_length(*needs, &fields), length, name);
-    }
-}
-
-const LENGTH: Header<'static> = Header {
-    name: "Content-Length",
-    value: b"5",
-};
-
-const HOST: Header<'static> = Header {
-    name: "Host",
-    value: b"a",
-};
-
-const CHUNKED: Header<'static> = Header {
-    name: "Transfer-Encoding",
-    value: b"chunked",
-};
-
-// The same of two fields, and of none.
-static FIELDS: [(bool, &[Header<'static>], Option<u64>); 6] = [
-    (true, &[LENGTH, HOST], Some(5)),
-    (true, &[HOST, LENGTH], Some(5)),
-    (true, &[LENGTH, LENGTH], None),
-    (true, &[LENGTH, CHUNKED], None),
-    (true, &[], None),
-    (false, &[], Some(0)),
-];
-
-#[test]
-fn two_lengths(rt: HostRuntime) {
-    for (index, (needs, fields, length)) in FIELDS.iter().enumerate() {
-        same(&rt, &body_length(*needs, fields), length, index);
-    }
+fn a_length_is_of_figures_alone(rt: HostRuntime) {
+    let fields = [Header {
+        name: "Content-Length",
+        value: b"1 ",
+    }];
+    same(&rt, &body_length(true, &fields), &None, "the length");
 }
 
 const MESSAGE: &[u8] = b"POST / HTTP/1.1\r\n\r\nbody";
@@ -168,17 +53,6 @@ fn narrow_writers(rt: HostRuntime) {
     for room in 0..MESSAGE.len() {
         check_narrow(&rt, rt.alloc(), room);
     }
-}
-
-fn sent(alloc: Global) -> Result<Vec<u8>, WebFault> {
-    let mut writer = Vec::new(alloc);
-    send(&mut writer, MESSAGE)?;
-    Ok(writer)
-}
-
-#[test]
-fn sends_all(rt: HostRuntime) {
-    same_bytes(&rt, &sent(rt.alloc()), MESSAGE);
 }
 
 #[test]

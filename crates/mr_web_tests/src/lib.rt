@@ -1,15 +1,9 @@
-//! Tests of the service and of the ways to it; `uses` shows how other programs call the crates. README.md says which file has what; nothing
-//! stands on this crate.
+//! Tests of what no command of the program reaches in the service and the ways to it; `uses` shows how other programs call the crates. README.md says which
+//! file has what; nothing stands on this crate.
 #![tactic(auto)]
 
 #[cfg(test)]
 mod asking_tests;
-#[cfg(test)]
-mod cancel_tests;
-#[cfg(test)]
-mod cancel_text_tests;
-#[cfg(test)]
-mod command_lines;
 #[cfg(test)]
 mod commands;
 #[cfg(test)]
@@ -17,20 +11,16 @@ mod connections;
 #[cfg(test)]
 mod head_tests;
 #[cfg(test)]
-mod round_tests;
-#[cfg(test)]
 mod running_tests;
 #[cfg(test)]
 mod same;
 #[cfg(test)]
-mod say_tests;
-#[cfg(test)]
 mod serving_tests;
-#[cfg(test)]
-mod text_tests;
 #[cfg(test)]
 mod uses;
 #[cfg(test)]
 mod without_desk;
 #[cfg(test)]
 mod without_memory_tests;
+#[cfg(test)]
+mod words_tests;

@@ -11,7 +11,7 @@ use std::process::Abort;
 
 static ASKED: [Asked; 5] = [
     Asked::AddRoom,
-    Asked::Book("13:30", &[], "Budget Meeting"),
+    Asked::Book("13:30", "Budget Meeting"),
     Asked::Sheet,
     Asked::Outcome("9-9"),
     Asked::Errors,

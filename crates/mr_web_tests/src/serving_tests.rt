@@ -1,4 +1,5 @@
-// Requests and their replies over a keeper of lists, to the byte. The memory is ample.
+// Requests and their replies, to the byte, over lists that load no desk, over a keeper that fails, and with readers and writers that do. The memory is ample. The
+// program is asked these and others (tests/http).
 
 use crate::asking_tests::{give, service};
 use crate::connections::{Drip, check_front, writer_of};
@@ -20,39 +21,12 @@ pub(crate) static FIRST: [(&str, u16, &str); 1] = [(
     "HTTP/1.1 200 OK\r\nContent-Type: application/json\r\nContent-Length: 90\r\nConnection: close\r\n\r\n{\"day\":\"1995-12-18\",\"id\":\"1-1\",\"mark\":\"T\",\"start\":\"13:30\",\"state\":\"booked\",\"stop\":\"14:30\"}",
 )];
 
-// Requests that change nothing; the last is the sheet.
-pub(crate) static THEN: [(&str, u16, &str); 6] = [
-    (
-        "GET /rooms/oak/requests/7-1 HTTP/1.1\r\n\r\n",
-        404,
-        "HTTP/1.1 404 Not Found\r\nContent-Type: application/json\r\nContent-Length: 36\r\nConnection: close\r\n\r\n{\"name\":\"NoSuchRequest\",\"refusal\":9}",
-    ),
-    (
-        "POST /submit HTTP/1.1\r\nContent-Length: 1048577\r\n\r\n",
-        413,
-        "HTTP/1.1 413 Content Too Large\r\nContent-Type: application/json\r\nContent-Length: 21\r\nConnection: close\r\n\r\n{\"error\":\"too large\"}",
-    ),
-    (
-        "POST /submit HTTP/1.1\r\n\r\n",
-        400,
-        "HTTP/1.1 400 Bad Request\r\nContent-Type: application/json\r\nContent-Length: 23\r\nConnection: close\r\n\r\n{\"error\":\"bad request\"}",
-    ),
-    (
-        "POST /submit HTTP/1.1\r\nContent-Le",
-        400,
-        "HTTP/1.1 400 Bad Request\r\nContent-Type: application/json\r\nContent-Length: 23\r\nConnection: close\r\n\r\n{\"error\":\"bad request\"}",
-    ),
-    (
-        "GET /submit HTTP/1.1\r\n\r\n",
-        405,
-        "HTTP/1.1 405 Method Not Allowed\r\nContent-Type: application/json\r\nAllow: POST\r\nContent-Length: 30\r\nConnection: close\r\n\r\n{\"error\":\"method not allowed\"}",
-    ),
-    (
-        "GET /rooms/oak/days/1995-12-18 HTTP/1.1\r\n\r\n",
-        200,
-        "HTTP/1.1 200 OK\r\nContent-Type: text/plain\r\nContent-Length: 55\r\nConnection: close\r\n\r\noak 1995-12-18 Monday\n13:30-14:30 T 1-1 Budget Meeting\n",
-    ),
-];
+// Its sheet.
+pub(crate) static SHEET: [(&str, u16, &str); 1] = [(
+    "GET /rooms/oak/days/1995-12-18 HTTP/1.1\r\n\r\n",
+    200,
+    "HTTP/1.1 200 OK\r\nContent-Type: text/plain\r\nContent-Length: 55\r\nConnection: close\r\n\r\noak 1995-12-18 Monday\n13:30-14:30 T 1-1 Budget Meeting\n",
+)];
 
 // The other routes, once each.
 static ROUTES: [(&str, u16, &str); 8] = [
@@ -98,116 +72,8 @@ static ROUTES: [(&str, u16, &str); 8] = [
     ),
 ];
 
-// Submissions whose wish is taken.
-static CHOICES: [(&str, u16, &str); 2] = [
-    (
-        "POST /submit HTTP/1.1\r\nContent-Length: 168\r\n\r\n{\"alternatives\":[{\"day\":\"1995-12-18\",\"start\":\"15:00\"},{\"day\":\"1995-12-19\",\"start\":\"13:30\"}],\"day\":\"1995-12-18\",\"length\":60,\"room\":\"oak\",\"start\":\"13:00\",\"title\":\"Audit\"}",
-        200,
-        "HTTP/1.1 200 OK\r\nContent-Type: application/json\r\nContent-Length: 90\r\nConnection: close\r\n\r\n{\"day\":\"1995-12-18\",\"id\":\"1-2\",\"mark\":\"T\",\"start\":\"15:00\",\"state\":\"booked\",\"stop\":\"16:00\"}",
-    ),
-    (
-        "POST /submit HTTP/1.1\r\nContent-Length: 77\r\n\r\n{\"day\":\"1995-12-18\",\"length\":60,\"room\":\"oak\",\"start\":\"13:00\",\"title\":\"Audit\"}",
-        200,
-        "HTTP/1.1 200 OK\r\nContent-Type: application/json\r\nContent-Length: 40\r\nConnection: close\r\n\r\n{\"id\":\"1-3\",\"mark\":\"T\",\"state\":\"logged\"}",
-    ),
-];
-
-// Requests that fail a check or are refused.
-static FAULTS: [(&str, u16, &str); 18] = [
-    (
-        "PUT /nothing HTTP/1.1\r\n\r\n",
-        404,
-        "HTTP/1.1 404 Not Found\r\nContent-Type: application/json\r\nContent-Length: 21\r\nConnection: close\r\n\r\n{\"error\":\"not found\"}",
-    ),
-    (
-        "GET /push HTTP/1.1\r\nTransfer-Encoding: chunked\r\n\r\n",
-        405,
-        "HTTP/1.1 405 Method Not Allowed\r\nContent-Type: application/json\r\nAllow: POST\r\nContent-Length: 30\r\nConnection: close\r\n\r\n{\"error\":\"method not allowed\"}",
-    ),
-    (
-        "POST /push HTTP/1.1\r\nContent-Length: 1048577\r\ncontent-length: 1048577\r\n\r\n",
-        400,
-        "HTTP/1.1 400 Bad Request\r\nContent-Type: application/json\r\nContent-Length: 23\r\nConnection: close\r\n\r\n{\"error\":\"bad request\"}",
-    ),
-    (
-        "GET /rooms/oak/days/é HTTP/1.1\r\n\r\n",
-        400,
-        "HTTP/1.1 400 Bad Request\r\nContent-Type: application/json\r\nContent-Length: 29\r\nConnection: close\r\n\r\n{\"name\":\"BadDay\",\"refusal\":1}",
-    ),
-    (
-        "POST /push HTTP/1.1\r\nContent-Length: 10\r\n\r\nmr1 1 1\nZ\n",
-        400,
-        "HTTP/1.1 400 Bad Request\r\nContent-Type: application/json\r\nContent-Length: 40\r\nConnection: close\r\n\r\n{\"line\":2,\"name\":\"BadLine\",\"refusal\":15}",
-    ),
-    (
-        "POST /pull HTTP/1.1\r\nContent-Length: 14\r\n\r\nmp1 9 2\nK 0\nE\n",
-        409,
-        "HTTP/1.1 409 Conflict\r\nContent-Type: application/json\r\nContent-Length: 36\r\nConnection: close\r\n\r\n{\"name\":\"WrongPrimary\",\"refusal\":16}",
-    ),
-    (
-        "GET /rooms/elm/errors HTTP/1.1\r\n\r\n",
-        404,
-        "HTTP/1.1 404 Not Found\r\nContent-Type: application/json\r\nContent-Length: 34\r\nConnection: close\r\n\r\n{\"name\":\"UnknownRoom\",\"refusal\":7}",
-    ),
-    (
-        "GET /rooms/éé/errors HTTP/1.1\r\n\r\n",
-        400,
-        "HTTP/1.1 400 Bad Request\r\nContent-Type: application/json\r\nContent-Length: 34\r\nConnection: close\r\n\r\n{\"name\":\"BadRoomName\",\"refusal\":4}",
-    ),
-    (
-        "POST /rooms/oak/errors HTTP/1.1\r\nContent-Length: 0\r\n\r\n",
-        405,
-        "HTTP/1.1 405 Method Not Allowed\r\nContent-Type: application/json\r\nAllow: GET\r\nContent-Length: 30\r\nConnection: close\r\n\r\n{\"error\":\"method not allowed\"}",
-    ),
-    (
-        "GET /rooms/oak HTTP/1.1\r\n\r\n",
-        404,
-        "HTTP/1.1 404 Not Found\r\nContent-Type: application/json\r\nContent-Length: 21\r\nConnection: close\r\n\r\n{\"error\":\"not found\"}",
-    ),
-    (
-        "GET /position HTTP/1.0\r\n\r\n",
-        400,
-        "HTTP/1.1 400 Bad Request\r\nContent-Type: application/json\r\nContent-Length: 23\r\nConnection: close\r\n\r\n{\"error\":\"bad request\"}",
-    ),
-    (
-        "GET /position HTTP/1.1\r\nContent-Length: 1\r\n\r\n1",
-        400,
-        "HTTP/1.1 400 Bad Request\r\nContent-Type: application/json\r\nContent-Length: 23\r\nConnection: close\r\n\r\n{\"error\":\"bad request\"}",
-    ),
-    (
-        "POST /pull HTTP/1.1\r\nContent-Length: 2\r\n\r\nE",
-        400,
-        "HTTP/1.1 400 Bad Request\r\nContent-Type: application/json\r\nContent-Length: 23\r\nConnection: close\r\n\r\n{\"error\":\"bad request\"}",
-    ),
-    (
-        "POST /submit HTTP/1.1\r\ntransfer-encoding: chunked\r\nContent-Length: 2\r\n\r\n{}",
-        400,
-        "HTTP/1.1 400 Bad Request\r\nContent-Type: application/json\r\nContent-Length: 23\r\nConnection: close\r\n\r\n{\"error\":\"bad request\"}",
-    ),
-    (
-        "POST /submit HTTP/1.1\r\nContent-Length: 79\r\n\r\n{\"day\":\"1995-12-18\",\"length\":60,\"room\":\"oak\",\"start\":\"13:30\",\"title\":\"A\",\"x\":1}",
-        400,
-        "HTTP/1.1 400 Bad Request\r\nContent-Type: application/json\r\nContent-Length: 23\r\nConnection: close\r\n\r\n{\"error\":\"bad request\"}",
-    ),
-    (
-        "POST /submit HTTP/1.1\r\nContent-Length: 74\r\n\r\n{\"day\":\"1995-12-18\",\"length\":6e1,\"room\":\"oak\",\"start\":\"13:30\",\"title\":\"A\"}",
-        400,
-        "HTTP/1.1 400 Bad Request\r\nContent-Type: application/json\r\nContent-Length: 23\r\nConnection: close\r\n\r\n{\"error\":\"bad request\"}",
-    ),
-    (
-        "POST /submit HTTP/1.1\r\nContent-Length: 111\r\n\r\n{\"day\":\"1995-12-18\",\"length\":60,\"room\":\"oak\",\"start\":\"13:30\",\"title\":\"A\",\"alternatives\":[{\"day\":\"1995-12-18\"}]}",
-        400,
-        "HTTP/1.1 400 Bad Request\r\nContent-Type: application/json\r\nContent-Length: 23\r\nConnection: close\r\n\r\n{\"error\":\"bad request\"}",
-    ),
-    (
-        "POST /submit HTTP/1.1\r\nContent-Length: 72\r\n\r\n{\"day\":\"1995-12-18\",\"length\":0,\"room\":\"oak\",\"start\":\"13:30\",\"title\":\"A\"}",
-        400,
-        "HTTP/1.1 400 Bad Request\r\nContent-Type: application/json\r\nContent-Length: 32\r\nConnection: close\r\n\r\n{\"name\":\"BadLength\",\"refusal\":3}",
-    ),
-];
-
 // The primary, which knows the room oak.
-pub(crate) fn opening(rt: &impl Abort, alloc: Global) -> Service<ListKeeper> {
+fn opening(rt: &impl Abort, alloc: Global) -> Service<ListKeeper> {
     let mut service = service(rt, alloc, 1);
     let room = String::from_str(alloc, "oak").expect(rt, "memory");
     give(&mut service, Command::Local(Local::AddRoom(room)));
@@ -229,7 +95,7 @@ fn check_served<K: Keeper, R: Read, A: Copy + Debug>(
 }
 
 // The request is answered by this status and these bytes.
-pub(crate) fn check<K: Keeper>(
+fn check<K: Keeper>(
     rt: &impl Abort,
     alloc: Global,
     service: &mut Service<K>,
@@ -240,7 +106,7 @@ pub(crate) fn check<K: Keeper>(
     check_served(rt, alloc, service, &mut reader, wanted);
 }
 
-pub(crate) fn check_all<K: Keeper>(
+fn check_all<K: Keeper>(
     rt: &impl Abort,
     alloc: Global,
     service: &mut Service<K>,
@@ -252,7 +118,7 @@ pub(crate) fn check_all<K: Keeper>(
 }
 
 // The service answers one list after the other.
-pub(crate) fn check_lists<K: Keeper + Drop>(
+fn check_lists<K: Keeper + Drop>(
     rt: &impl Abort,
     alloc: Global,
     mut service: Service<K>,
@@ -263,36 +129,12 @@ pub(crate) fn check_lists<K: Keeper + Drop>(
     }
 }
 
-#[test]
-fn submits(rt: HostRuntime) {
-    let service = opening(&rt, rt.alloc());
-    check_lists(&rt, rt.alloc(), service, &[&FIRST, &THEN]);
-}
-
-#[test]
-fn serves_each_route(rt: HostRuntime) {
-    let service = opening(&rt, rt.alloc());
-    check_lists(&rt, rt.alloc(), service, &[&FIRST, &ROUTES]);
-}
-
 // No request needs a whole desk.
 #[test]
 fn serves_each_route_without_a_desk(rt: HostRuntime) {
     let keeper = WithoutDesk::new(opening(&rt, rt.alloc()).into_keeper());
     let service = Service::new(rt.alloc(), keeper);
-    check_lists(&rt, rt.alloc(), service, &[&FIRST, &THEN, &ROUTES]);
-}
-
-#[test]
-fn takes_alternatives(rt: HostRuntime) {
-    let service = opening(&rt, rt.alloc());
-    check_lists(&rt, rt.alloc(), service, &[&FIRST, &CHOICES]);
-}
-
-#[test]
-fn tells_faults(rt: HostRuntime) {
-    let service = opening(&rt, rt.alloc());
-    check_lists(&rt, rt.alloc(), service, &[&FAULTS]);
+    check_lists(&rt, rt.alloc(), service, &[&FIRST, &SHEET, &ROUTES]);
 }
 
 const NO_MEMORY: &str =
@@ -319,7 +161,7 @@ fn keepers_fail(rt: HostRuntime) {
 
 // The sheet, which has the one booking or none.
 fn check_sheet(rt: &impl Abort, alloc: Global, service: &mut Service<ListKeeper>, is_booked: bool) {
-    let (request, status, booked) = THEN[5];
+    let (request, status, booked) = SHEET[0];
     let reply = if is_booked { booked } else { NO_BOOKINGS };
     check(rt, alloc, service, (request, status, reply));
 }

@@ -1,7 +1,7 @@
 // Requests whose replies are printed as they come, so that a library under the program can refuse each allocation: `tests/faults/refused_memory.py`
 // runs this test by its name, and compares what it prints. No line takes memory.
 
-use crate::serving_tests::{FIRST, THEN};
+use crate::serving_tests::{FIRST, SHEET};
 use crate::uses::opened;
 use mr_http::WebFault;
 use mr_service::Service;
@@ -45,7 +45,7 @@ fn serve_all<K: Keeper, W: Write>(
     out: &mut W,
 ) {
     serve(rt, alloc, service, FIRST[0].0, out);
-    serve(rt, alloc, service, THEN[5].0, out);
+    serve(rt, alloc, service, SHEET[0].0, out);
     serve(rt, alloc, service, FIRST[0].0, out);
 }
 
