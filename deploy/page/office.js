@@ -4,8 +4,8 @@ import { keepSheet, keptSheet } from './kept.js';
 
 const PATIENCE = 65000;
 
-/** What rooms.json says; `from` and `to` are minutes, `zone` is that of the rooms' clocks. */
-export const office = { isKnown: false, name: 'Rooms', rooms: [], from: 420, to: 1200, zone: '', zoneTrouble: '' };
+/** What rooms.json says; `from` and `to` are minutes, `zone` is that of the rooms' clocks, `door` what tablets at doors may do. */
+export const office = { isKnown: false, name: 'Rooms', rooms: [], from: 420, to: 1200, zone: '', zoneTrouble: '', door: null };
 /** What the address names. */
 export const at = { day: '', view: 'day', room: '' };
 /** How long nothing was heard, and why; `sent` in the cause: the office may have had the request nevertheless. */
@@ -100,6 +100,11 @@ export async function askFile(path) {
 /** Puts a mark that all desks of the office see. It may be put again. */
 export async function putMark(path) {
   await askMayBook();
+  await putFile(path);
+}
+
+/** Has the proxy make an empty file, or leave the one that is there. */
+export async function putFile(path) {
   const reply = await fetched(path, '', 'PUT');
   if (reply.status === 401 || reply.status === 403) throw new Fault(false, 'the password was refused');
   if (reply.status !== 201 && reply.status !== 204) throw new Fault(true, 'status ' + reply.status);
@@ -117,6 +122,7 @@ export async function askOffice() {
   office.isKnown = true;
   office.name = words.office || 'Rooms';
   office.rooms = words.rooms || [];
+  office.door = words.door || null;
   if (words.from) office.from = minuteOf(words.from);
   if (words.to) office.to = minuteOf(words.to);
   try {
