@@ -49,6 +49,7 @@ offices 90
 proxy 60
 page 150
 doors 60
+anyroom 45
 told 180
 '
 # how many ports each part has for itself, of those from FIRST_PORT to 20000; from there on worlds has its own

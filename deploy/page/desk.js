@@ -2,7 +2,8 @@
 // and shows every text of theirs as text. `rooms.json` names the rooms.
 //
 // texts.js has what needs no reply, office.js asks; over them stand states.js, cancel.js and box.js (any request), mine.js over follow.js
-// (this browser's own), offers.js and wish.js under form.js (what is asked for), grid.js, find.js, newslist.js over news.js, and this file.
+// (this browser's own), offers.js and wish.js under form.js (what is asked for), anyroom.js over find.js and needs.js,
+// grid.js, newslist.js over news.js, and this file.
 // Each of the lower ones reaches the page as a whole by `page` of office.js.
 import { byId, el, dayBeside, FIRST, isDay, LAST, MIDNIGHT, put, timeOf, weekday } from './texts.js';
 import { Fault, askErrors, askOffice, askSheet, at, clock, labelOf, missed, momentOf, now, office, page, sheetOf, silence } from './office.js';
@@ -17,7 +18,10 @@ import { askNews, status } from './news.js';
 import { openNews, showNews } from './newslist.js';
 import { dropOldSheets } from './kept.js';
 import { showErrors } from './errorlist.js';
-import { showFound } from './find.js';
+import { foundColumns, showFound } from './find.js';
+import { showNeeds } from './needs.js';
+import { askAny, typedAny } from './anyroom.js';
+import { due } from './ahead.js';
 import { printDoor } from './print.js';
 import { columns, focusGrid, keepCursor, moveCursor, showGrid, watchWidth, weekShown } from './grid.js';
 
@@ -58,10 +62,7 @@ function step(sign) { goTo({ day: dayBeside(at.day, sign * (at.view === 'week' ?
 
 // ---- asking
 
-function wanted() {
-  if (at.view === 'find') return office.rooms.map(room => ({ room: room.name, day: at.day }));
-  return columns();
-}
+const wanted = () => at.view === 'find' ? foundColumns() : columns();
 
 /** Asks for all that is shown; of two rounds under way only the later one goes on. */
 async function round() {
@@ -71,9 +72,10 @@ async function round() {
   let pause = EVERY;
   try {
     if (!office.isKnown) return await loadOffice();
-    for (const { room, day } of wanted()) {
+    for (const { room, day } of at.view === 'find' ? due(wanted()) : wanted()) {
       await askSheet(room, day);
       if (number !== rounds) return;
+      if (day !== at.day) show();
     }
     await askMine(begun);
     if (byId('log').open) showErrors({ room: at.room, lines: await askErrors(at.room) });
@@ -96,6 +98,7 @@ async function loadOffice() {
   for (const list of [byId('room'), byId('at-room')]) {
     list.replaceChildren(...office.rooms.map(room => el('option', { value: room.name }, labelOf(room.name))));
   }
+  showNeeds();
   byId('find-from').value = timeOf(office.from);
   byId('find-to').value = timeOf(Math.min(office.to, MIDNIGHT - 1));
   readAddress();
@@ -161,6 +164,9 @@ function start() {
   byId('form').addEventListener('input', typed);
   byId('clear').addEventListener('click', () => { standsForNone(); startOver(); report(''); });
   for (const id of ['room', 'wish-day', 'wish-start', 'length', 'find-length', 'find-from', 'find-to']) byId(id).addEventListener('change', show);
+  for (const id of ['find-days', 'find-seats', 'find-has']) byId(id).addEventListener('change', () => { show(); round(); });
+  byId('any').addEventListener('submit', askAny);
+  byId('find').addEventListener('input', typedAny);
   byId('bar-open').addEventListener('click', openNews);
   byId('log').addEventListener('toggle', round);
   byId('box').addEventListener('close', () => { closeBox(); showMine(); focusGrid(); });

@@ -487,7 +487,7 @@ calendars() { "$deploy/calendar/rooms-calendar" quiet; }
 
 # settings_of ZONE: rooms.json of the office `quiet`; the label of elm is longer than a line, and has letters of two bytes
 settings_of() {
-    printf '{"office": "Quiet", "zone": "%s", "rooms": [{"name": "oak", "label": "Oak, 2nd floor"},\n {"label": "%s", "name": "elm"}]}\n' \
+    printf '{"office": "Quiet", "zone": "%s", "door": {"release": 5}, "rooms": [{"seats": 8, "name": "oak", "has": ["name", "label"], "label": "Oak, 2nd floor"},\n {"label": "%s", "door": {"name": "x"}, "name": "elm"}]}\n' \
         "$1" "$long" > "$ROOMS_ETC/quiet.rooms.json"
 }
 
@@ -723,5 +723,6 @@ run_deploy() {
     run_proxy
     run_page
     run_doors
+    run_anyroom
     run_told
 }

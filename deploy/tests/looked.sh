@@ -62,3 +62,11 @@ run_doors() {
     desk=room-a:tablet page_test doors.py
     stop_nginx
 }
+
+run_anyroom() {
+    if missing 'any room' curl openssl nginx flock python3 chromium chromedriver; then return; fi
+    begin_looking
+    deploy_rooms "$deploy_scratch/page/anyroom.db"
+    page_test anyroom.py
+    stop_nginx
+}
