@@ -50,6 +50,7 @@ proxy 60
 page 150
 doors 60
 anyroom 45
+report 40
 told 180
 '
 # how many ports each part has for itself, of those from FIRST_PORT to 20000; from there on worlds has its own

@@ -86,7 +86,7 @@ deploy_offices() {
         ROOMS_PROGRAM
     ROOMS_PROGRAM=$(readlink -f -- "$program")
     mkdir -p "$ROOMS_SHARE"
-    cp -r "$deploy/page" "$deploy/front" "$deploy/news" "$deploy/proxy/office.conf.in" "$deploy/systemd/office.settings.in" "$deploy/systemd/page_rooms.pl" \
+    cp -r "$deploy/page" "$deploy/front" "$deploy/news" "$deploy/report" "$deploy/proxy/office.conf.in" "$deploy/systemd/office.settings.in" "$deploy/systemd/page_rooms.pl" \
         "$ROOMS_SHARE"
     held 'an office is made' "$deploy/systemd/rooms-office" make west 1 1 $((ports)) $((ports + 1)) oak elm
     held 'it names the zone of its clock' grep -qF '"zone": "'"$(readlink -f /etc/localtime | sed -n 's,.*/zoneinfo/,,p')"'"' "$ROOMS_ETC/west.rooms.json"
@@ -724,5 +724,6 @@ run_deploy() {
     run_page
     run_doors
     run_anyroom
+    run_report
     run_told
 }

@@ -149,9 +149,9 @@ deploy_made_offices() {
     export ROOMS_ETC ROOMS_STATE ROOMS_SHARE ROOMS_USER ROOMS_PROGRAM
     local -x LC_ALL=C ROOMS_CALENDAR=$deploy/calendar/rooms-calendar ROOMS_CALENDARS=$folder/calendars
     mkdir -p "$ROOMS_SHARE" "$ROOMS_ETC" "$ROOMS_STATE" "$ROOMS_CALENDARS/east"
-    cp -r "$deploy/page" "$deploy/front" "$deploy/news" "$deploy/proxy/office.conf.in" "$deploy/systemd/office.settings.in" "$deploy/systemd/page_rooms.pl" \
+    cp -r "$deploy/page" "$deploy/front" "$deploy/news" "$deploy/report" "$deploy/proxy/office.conf.in" "$deploy/systemd/office.settings.in" "$deploy/systemd/page_rooms.pl" \
         "$ROOMS_SHARE"
-    for script in "$office" "$deploy/courier/rooms-courier" "$deploy/check/rooms-check" "$deploy/calendar/rooms-calendar" "$deploy/package/build" "$deploy/tests/alone" \
+    for script in "$office" "$deploy/courier/rooms-courier" "$deploy/check/rooms-check" "$deploy/calendar/rooms-calendar" "$deploy/report/rooms-report" "$deploy/package/build" "$deploy/tests/alone" \
         "$deploy/tests/under_systemd"; do
         held "${script##*/} --help" eval '[ "$("$script" --help 2>&1 | wc -c)" -gt 70 ] && "$script" -h > /dev/null'
     done
