@@ -8,6 +8,7 @@ import { releaseUnused, saidNow, showActs } from './acts.js';
 import { forgetHere, readHere } from './checkin.js';
 import { doorOf } from './tablet.js';
 import { qrDrawing } from './qr.js';
+import { keepFiles } from './offline.js';
 
 const EVERY = 30000, TICK = 1000;
 /** The sheets of today and tomorrow as they were read last: `days` by day, and when. */
@@ -127,3 +128,4 @@ document.addEventListener('visibilitychange', () => { if (!document.hidden) { st
 setInterval(show, TICK);
 stayOn();
 begin();
+keepFiles();

@@ -1,6 +1,6 @@
 // The office, what it is asked, and what it answered last. The desk and the door know nothing of it but by these calls.
 import { clockOf, readErrors, readSheet, minuteOf, weekday } from './texts.js';
-import { keepSheet, keptSheet } from './kept.js';
+import { keepSheet, keptNames, keptSheet } from './kept.js';
 
 const PATIENCE = 65000;
 
@@ -157,6 +157,15 @@ export function sheetOf(room, day) {
     if (kept) sheets.set(name, { rows: kept.text ? readSheet(kept.text) : null, at: kept.at, isKept: true });
   }
   return sheets.get(name) || null;
+}
+
+/** All sheets that this browser has, of now or kept: room, day and rows. */
+export function knownSheets() {
+  const names = new Set([...sheets.keys(), ...keptNames()]);
+  return [...names].map(name => {
+    const [room, day] = name.split(' '), kept = sheets.has(name) ? null : keptSheet(room, day);
+    return { room, day, rows: kept ? readSheet(kept.text) : (sheets.get(name) || {}).rows || [] };
+  }).filter(({ room }) => office.rooms.some(each => each.name === room));
 }
 
 /** What became of a request, or null where the office doesn't know it. */

@@ -779,5 +779,6 @@ run_deploy() {
     run_doors
     run_anyroom
     run_report
+    run_looking
     run_told
 }

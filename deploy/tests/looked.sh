@@ -132,3 +132,11 @@ run_report() {
     if ! missing 'figures in a browser' chromium chromedriver; then page_test report.py; fi
     stop_nginx
 }
+
+run_looking() {
+    if missing 'looking' curl openssl nginx flock python3 chromium chromedriver; then return; fi
+    begin_looking
+    deploy_rooms "$deploy_scratch/page/looking.db"
+    page_test looking.py
+    stop_nginx
+}
