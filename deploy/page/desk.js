@@ -2,7 +2,8 @@
 // and shows every text of theirs as text. `rooms.json` names the rooms.
 //
 // texts.js has what needs no reply, office.js asks; over them stand states.js, cancel.js and box.js (any request), mine.js over follow.js
-// (this browser's own), offers.js and wish.js under form.js (what is asked for), grid.js, find.js, newslist.js over news.js, and this file.
+// (this browser's own), offers.js and wish.js under form.js (what is asked for), anyroom.js over find.js and needs.js,
+// grid.js, month.js, coming.js and search.js (looking), newslist.js over news.js, and this file.
 // Each of the lower ones reaches the page as a whole by `page` of office.js.
 import { byId, el, dayBeside, FIRST, isDay, LAST, MIDNIGHT, put, timeOf, weekday } from './texts.js';
 import { Fault, askErrors, askOffice, askSheet, at, clock, labelOf, missed, momentOf, now, office, page, sheetOf, silence } from './office.js';
@@ -17,11 +18,18 @@ import { askNews, status } from './news.js';
 import { openNews, showNews } from './newslist.js';
 import { dropOldSheets } from './kept.js';
 import { showErrors } from './errorlist.js';
-import { showFound } from './find.js';
+import { foundColumns, showFound } from './find.js';
+import { showNeeds } from './needs.js';
+import { askAny, typedAny } from './anyroom.js';
+import { due } from './ahead.js';
+import { monthBeside, monthColumns, monthTitle, moveInMonth, showMonth } from './month.js';
+import { comingColumns, comingTitle, openComing, showComing } from './coming.js';
+import { showSearch } from './search.js';
+import { keepFiles } from './offline.js';
 import { printDoor } from './print.js';
 import { columns, focusGrid, keepCursor, moveCursor, showGrid, watchWidth, weekShown } from './grid.js';
 
-const EVERY = 30000, AGAIN = 4000, VIEWS = ['day', 'week', 'find'];
+const EVERY = 30000, AGAIN = 4000, VIEWS = ['day', 'week', 'month', 'coming', 'find', 'search'];
 let rounds = 0, timer = 0;
 
 // ---- the address: #1995-12-18, or #1995-12-18/week/oak
@@ -53,15 +61,17 @@ function goTo(change) {
   location.hash = address;
 }
 
-/** The other day of a step: by weeks where a week is shown. */
-function step(sign) { goTo({ day: dayBeside(at.day, sign * (at.view === 'week' ? 7 : 1)) }); }
+/** The other day of a step: by months where a month is shown, by weeks in a week and in a list. */
+function step(sign) { goTo({ day: at.view === 'month' ? monthBeside(at.day, sign) : dayBeside(at.day, sign * (['week', 'coming'].includes(at.view) ? 7 : 1)) }); }
 
 // ---- asking
 
-function wanted() {
-  if (at.view === 'find') return office.rooms.map(room => ({ room: room.name, day: at.day }));
-  return columns();
-}
+/** The sheets that a view needs, and how it is shown; the grid shows a day and a week. */
+const OTHERS = {
+  month: { wanted: monthColumns, show: showMonth }, coming: { wanted: comingColumns, show: showComing },
+  find: { wanted: foundColumns, show: showFound }, search: { wanted: () => [], show: showSearch },
+};
+const wanted = () => OTHERS[at.view] ? OTHERS[at.view].wanted() : columns();
 
 /** Asks for all that is shown; of two rounds under way only the later one goes on. */
 async function round() {
@@ -71,9 +81,10 @@ async function round() {
   let pause = EVERY;
   try {
     if (!office.isKnown) return await loadOffice();
-    for (const { room, day } of wanted()) {
+    for (const { room, day } of OTHERS[at.view] ? due(wanted()) : wanted()) {
       await askSheet(room, day);
       if (number !== rounds) return;
+      if (day !== at.day) show();
     }
     await askMine(begun);
     if (byId('log').open) showErrors({ room: at.room, lines: await askErrors(at.room) });
@@ -96,6 +107,7 @@ async function loadOffice() {
   for (const list of [byId('room'), byId('at-room')]) {
     list.replaceChildren(...office.rooms.map(room => el('option', { value: room.name }, labelOf(room.name))));
   }
+  showNeeds();
   byId('find-from').value = timeOf(office.from);
   byId('find-to').value = timeOf(Math.min(office.to, MIDNIGHT - 1));
   readAddress();
@@ -104,12 +116,13 @@ async function loadOffice() {
 // ---- showing
 
 function show() {
-  const read = wanted().map(({ room, day }) => sheetOf(room, day)), isRead = read.length > 0 && read.every(sheet => sheet);
+  const read = wanted().map(({ room, day }) => sheetOf(room, day)), isRead = OTHERS[at.view] ? read.some(sheet => sheet) : read.length > 0 && read.every(sheet => sheet);
   showAlarm(read.filter(sheet => sheet), isRead);
   showHead();
-  byId('find').hidden = at.view !== 'find';
-  byId('scroll').hidden = byId('legend').hidden = at.view === 'find';
-  if (at.view === 'find') showFound(); else showGrid();
+  for (const view of Object.keys(OTHERS)) byId(view).hidden = at.view !== view;
+  byId('month-hint').hidden = at.view !== 'month';
+  byId('scroll').hidden = byId('legend').hidden = at.view in OTHERS;
+  (OTHERS[at.view] || { show: showGrid }).show();
   showForm();
   showNews();
   showMet(byId('met'), status);
@@ -118,7 +131,8 @@ function show() {
 function showHead() {
   const week = weekShown();
   byId('sheet-title').textContent = at.view === 'week' ? labelOf(at.room) + ', ' + week[0] + ' to ' + week.at(-1)
-    : (at.view === 'find' ? 'Free rooms, ' : '') + weekday(at.day) + ' ' + at.day;
+    : at.view === 'month' ? monthTitle() : at.view === 'coming' ? comingTitle() : at.view === 'search' ? 'Search'
+      : (at.view === 'find' ? 'Free rooms, ' : '') + weekday(at.day) + ' ' + at.day;
   byId('day').value = at.day;
   byId('at-room').value = at.room;
   byId('before').disabled = at.day === FIRST;
@@ -153,6 +167,9 @@ function start() {
   byId('day').addEventListener('change', event => { if (isDay(event.target.value)) goTo({ day: event.target.value }); });
   byId('views').addEventListener('click', event => { if (event.target.dataset.view) goTo({ view: event.target.dataset.view }); });
   byId('at-room').addEventListener('change', event => goTo({ room: event.target.value }));
+  byId('month').addEventListener('keydown', moveInMonth);
+  byId('coming').addEventListener('click', openComing);
+  byId('search-for').addEventListener('input', showSearch);
   byId('grid').addEventListener('keydown', moveCursor);
   byId('grid').addEventListener('focusin', keepCursor);
   byId('skip').addEventListener('click', event => { event.preventDefault(); byId('request').focus(); });
@@ -161,6 +178,9 @@ function start() {
   byId('form').addEventListener('input', typed);
   byId('clear').addEventListener('click', () => { standsForNone(); startOver(); report(''); });
   for (const id of ['room', 'wish-day', 'wish-start', 'length', 'find-length', 'find-from', 'find-to']) byId(id).addEventListener('change', show);
+  for (const id of ['find-days', 'find-seats', 'find-has']) byId(id).addEventListener('change', () => { show(); round(); });
+  byId('any').addEventListener('submit', askAny);
+  byId('find').addEventListener('input', typedAny);
   byId('bar-open').addEventListener('click', openNews);
   byId('log').addEventListener('toggle', round);
   byId('box').addEventListener('close', () => { closeBox(); showMine(); focusGrid(); });
@@ -171,6 +191,7 @@ function start() {
   window.addEventListener('storage', takeMine);
   document.addEventListener('visibilitychange', () => { if (!document.hidden) round(); });
   readAddress();
+  keepFiles();
 }
 
 start();

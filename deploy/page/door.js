@@ -1,8 +1,14 @@
 // The display at a room's door, door.html#oak: free or taken, until when, and what comes next. It asks twice a minute, and where no
-// reply comes it goes on by what it read last, also after it was opened anew, and shows of when that is.
+// reply comes it goes on by what it read last, also after it was opened anew, and shows of when that is. Where rooms.json says so, the room
+// can be booked, checked in to and ended here; a code leads to the page of this room and day.
 import { byId, dayBeside, el, hoursText, MIDNIGHT, put, timeOf, weekday } from './texts.js';
 import { Fault, askFile, askOffice, askSheet, clock, labelOf, missed, now, office, page, silence } from './office.js';
 import { showMet } from './met.js';
+import { releaseUnused, saidNow, showActs } from './acts.js';
+import { forgetHere, readHere } from './checkin.js';
+import { doorOf } from './tablet.js';
+import { qrDrawing } from './qr.js';
+import { keepFiles } from './offline.js';
 
 const EVERY = 30000, TICK = 1000;
 /** The sheets of today and tomorrow as they were read last: `days` by day, and when. */
@@ -10,6 +16,8 @@ let news = { days: {}, at: null };
 let timer = 0;
 /** What the office's service said of itself last: status.json. */
 let status = null;
+/** The address that the code shows. */
+let coded = '';
 
 const roomOf = () => location.hash.slice(1);
 const keep = () => 'rooms.door.' + roomOf();
@@ -24,9 +32,11 @@ async function round() {
   try {
     if (!office.isKnown) await askOffice();
     if (room) await askDays(room);
+    if (room && doorOf(room)) await askUse(room);
   } catch (fault) {
     if (!(fault instanceof Fault)) throw fault;
     missed(fault);
+    forgetHere();
   }
   status = await askFile('/status.json');
   show();
@@ -39,6 +49,12 @@ async function askDays(room) {
   if (room !== roomOf()) return;
   news = { days, at: Date.now(), label: labelOf(room), zone: office.zone };
   try { localStorage.setItem(keep(), JSON.stringify(news)); } catch { /* then it lasts as long as this page */ }
+}
+
+/** Who checked in; and what nobody checked in to goes. */
+async function askUse(room) {
+  await readHere(room);
+  if (await releaseUnused(room, news.days[now().day] || [], doorOf(room))) await askDays(room);
 }
 
 /** What a room is at this minute: whether it is taken, until when, by what, and what comes next. */
@@ -61,6 +77,10 @@ function show() {
   if (!room) showRooms(); else if (!rows) showUnknown(rows); else showState(stateAt(rows, minute), day);
   const at = news.at ? clock(new Date(news.at)).slice(0, 5) : '';
   showMet(byId('met'), status);
+  showActs(byId('acts'), room, rows, doorOf(room), office.isKnown && silence.failures === 0);
+  document.body.classList.toggle('acts', !byId('acts').hidden);
+  put({ said: saidNow() });
+  showCode(room, day);
   put({ room: document.title, news: !isOld ? time.slice(0, 5) : at ? 'No connection. Last news of ' + at : 'No connection, and no news yet' });
 }
 
@@ -73,6 +93,14 @@ function showState({ present, next, until }, day) {
 
 function showUnknown(rows) {
   put({ word: '?', until: rows === null ? 'This office does not know the room.' : 'Nothing is known of today yet.', title: '', next: '' });
+}
+
+/** A code that opens the page at this room and day. */
+function showCode(room, day) {
+  const address = room ? location.origin + '/#' + day + '/day/' + room : '';
+  if (address === coded) return;
+  coded = address;
+  byId('code').replaceChildren(...[address && qrDrawing(address, 'A code that opens the page of this room: ' + address)].filter(each => each));
 }
 
 /** Without a room in the address: which there are. */
@@ -88,14 +116,16 @@ async function stayOn() {
 }
 
 function begin() {
+  forgetHere();
   readKept();
   show();
   round();
 }
 
-page.show = show;
+Object.assign(page, { show, round });
 window.addEventListener('hashchange', begin);
 document.addEventListener('visibilitychange', () => { if (!document.hidden) { stayOn(); round(); } });
 setInterval(show, TICK);
 stayOn();
 begin();
+keepFiles();

@@ -1,26 +1,64 @@
-// A free room: each room with the stretches of its day that are free for long enough.
-import { byId, el, buttonOf, freeOf, hoursText, minuteOf, renew } from './texts.js';
-import { at, labelOf, office, page, sheetOf } from './office.js';
+// A free room: each room that has what is needed with the stretches of a day, or of several, that are free for long enough.
+import { byId, dayBeside, el, buttonOf, freeOf, hoursText, LAST, minuteOf, renew, weekday } from './texts.js';
+import { at, labelOf, now, office, page, sheetOf } from './office.js';
+import { hasWords, roomsThatFit, seatsOf } from './needs.js';
 import { takeOffer } from './wish.js';
 
-export function showFound() {
-  const length = Number(byId('find-length').value), from = byId('find-from').value, to = byId('find-to').value;
-  const isAsked = Number.isInteger(length) && length > 0 && from !== '' && to !== '';
-  if (!isAsked) return renew(byId('found'), el('li', { className: 'error' }, 'A length in minutes, and two times of day, please.'));
-  renew(byId('found'), ...office.rooms.map(({ name }) => {
-    const sheet = sheetOf(name, at.day), head = el('b', {}, labelOf(name));
-    if (!sheet || !sheet.rows) return el('li', {}, head, ' ', sheet ? 'This office does not know the room.' : 'Not read yet.');
-    const free = freeOf(sheet.rows, minuteOf(from), minuteOf(to)).filter(each => each.stop - each.start >= length);
-    return el('li', {}, head, el('span', { className: 'buttons' }, ...free.map(each => foundButton(name, each, length))),
-      free.length ? null : el('span', { className: 'hint' }, 'Not free for that long.'));
-  }));
+/** The days that are looked at, from the one that the address names on. */
+function daysFound() {
+  const count = Number(byId('find-days').value) || 1;
+  return Array.from({ length: count }, (_, step) => dayBeside(at.day, step)).filter((day, place) => place === 0 || dayBeside(at.day, place - 1) < LAST);
 }
 
-function foundButton(room, free, length) {
+/** The sheets that this needs. */
+export const foundColumns = () => daysFound().flatMap(day => roomsThatFit().map(room => ({ room: room.name, day })));
+
+/** What is asked: a length and two times, or null where the fields don't say. */
+function asked() {
+  const length = Number(byId('find-length').value), from = byId('find-from').value, to = byId('find-to').value;
+  return Number.isInteger(length) && length > 0 && from !== '' && to !== '' ? { length, from: minuteOf(from), to: minuteOf(to) } : null;
+}
+
+function freeFor(sheet, { length, from, to }) {
+  return freeOf(sheet.rows, from, to).filter(each => each.stop - each.start >= length);
+}
+
+export function showFound() {
+  const wanted = asked(), rooms = roomsThatFit(), days = daysFound();
+  byId('any').hidden = !wanted;
+  if (!wanted) return renew(byId('found'), el('li', { className: 'error' }, 'A length in minutes, and two times of day, please.'));
+  if (!rooms.length) return renew(byId('found'), el('li', { className: 'error' }, 'No room has all of that.'));
+  renew(byId('found'), ...days.flatMap(day => [days.length > 1 ? el('li', { className: 'day' }, weekday(day) + ' ' + day) : '',
+    ...rooms.map(room => foundItem(room, day, wanted))].filter(each => each)));
+}
+
+function foundItem(room, day, wanted) {
+  const { name } = room, sheet = sheetOf(name, day), has = hasWords(room);
+  const head = [el('b', {}, labelOf(name)), has ? el('span', { className: 'hint' }, ' ' + has) : ''];
+  if (!sheet || !sheet.rows) return el('li', {}, ...head, ' ', sheet ? 'This office does not know the room.' : 'Not read yet.');
+  const free = freeFor(sheet, wanted);
+  return el('li', {}, ...head, el('span', { className: 'buttons' }, ...free.map(each => foundButton(name, day, each, wanted.length))),
+    free.length ? null : el('span', { className: 'hint' }, 'Not free for that long.'));
+}
+
+function foundButton(room, day, free, length) {
   const take = async () => {
-    if (!await takeOffer(room, at.day, free.start)) return;
+    if (!await takeOffer(room, day, free.start)) return;
     byId('length').value = length;
     page.show();
   };
-  return buttonOf(hoursText(free.start, free.stop), take, { 'aria-label': labelOf(room) + ' is free ' + hoursText(free.start, free.stop) + ': ask for it' });
+  return buttonOf(hoursText(free.start, free.stop), take, { 'aria-label': labelOf(room) + ' is free ' + day + ' ' + hoursText(free.start, free.stop) + ': ask for it' });
+}
+
+/** Where a meeting finds room, the earliest first, and of rooms that are free at once the one with fewest seats; nothing that is past. */
+export function firstFree() {
+  const wanted = asked(), clock = now(), places = [];
+  if (!wanted) return [];
+  for (const { room, day } of foundColumns()) {
+    const sheet = sheetOf(room, day), from = day === clock.day ? Math.max(wanted.from, clock.minute) : wanted.from;
+    const [free] = day < clock.day || !sheet || !sheet.rows ? [] : freeFor(sheet, { ...wanted, from });
+    if (free) places.push({ room, day, start: free.start, length: wanted.length });
+  }
+  const seats = ({ room }) => seatsOf(office.rooms.find(each => each.name === room)) || Infinity;
+  return places.sort((one, other) => one.day < other.day ? -1 : one.day > other.day ? 1 : one.start - other.start || seats(one) - seats(other) || 0);
 }

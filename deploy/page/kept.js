@@ -1,5 +1,5 @@
 // The sheets that this browser has read, kept in it, for when the page is opened anew while the office gives no reply.
-const PREFIX = 'rooms.sheet.', MOST = 150;
+const PREFIX = 'rooms.sheet.', MOST = 300;
 
 /** An empty text is that of a room that the office doesn't know. */
 export function keepSheet(room, day, text, at) {
@@ -14,6 +14,11 @@ export function keptSheet(room, day) {
   } catch {
     return null;
   }
+}
+
+/** The rooms and days of all sheets that are kept. */
+export function keptNames() {
+  try { return Object.keys(localStorage).filter(name => name.startsWith(PREFIX)).map(name => name.slice(PREFIX.length)); } catch { return []; }
 }
 
 /** Keeps those alone that were read last. */

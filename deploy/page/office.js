@@ -1,11 +1,11 @@
 // The office, what it is asked, and what it answered last. The desk and the door know nothing of it but by these calls.
 import { clockOf, readErrors, readSheet, minuteOf, weekday } from './texts.js';
-import { keepSheet, keptSheet } from './kept.js';
+import { keepSheet, keptNames, keptSheet } from './kept.js';
 
 const PATIENCE = 65000;
 
-/** What rooms.json says; `from` and `to` are minutes, `zone` is that of the rooms' clocks. */
-export const office = { isKnown: false, name: 'Rooms', rooms: [], from: 420, to: 1200, zone: '', zoneTrouble: '' };
+/** What rooms.json says; `from` and `to` are minutes, `zone` is that of the rooms' clocks, `door` what tablets at doors may do. */
+export const office = { isKnown: false, name: 'Rooms', rooms: [], from: 420, to: 1200, zone: '', zoneTrouble: '', door: null };
 /** What the address names. */
 export const at = { day: '', view: 'day', room: '' };
 /** How long nothing was heard, and why; `sent` in the cause: the office may have had the request nevertheless. */
@@ -100,6 +100,11 @@ export async function askFile(path) {
 /** Puts a mark that all desks of the office see. It may be put again. */
 export async function putMark(path) {
   await askMayBook();
+  await putFile(path);
+}
+
+/** Has the proxy make an empty file, or leave the one that is there. */
+export async function putFile(path) {
   const reply = await fetched(path, '', 'PUT');
   if (reply.status === 401 || reply.status === 403) throw new Fault(false, 'the password was refused');
   if (reply.status !== 201 && reply.status !== 204) throw new Fault(true, 'status ' + reply.status);
@@ -117,6 +122,7 @@ export async function askOffice() {
   office.isKnown = true;
   office.name = words.office || 'Rooms';
   office.rooms = words.rooms || [];
+  office.door = words.door || null;
   if (words.from) office.from = minuteOf(words.from);
   if (words.to) office.to = minuteOf(words.to);
   try {
@@ -151,6 +157,15 @@ export function sheetOf(room, day) {
     if (kept) sheets.set(name, { rows: kept.text ? readSheet(kept.text) : null, at: kept.at, isKept: true });
   }
   return sheets.get(name) || null;
+}
+
+/** All sheets that this browser has, of now or kept: room, day and rows. */
+export function knownSheets() {
+  const names = new Set([...sheets.keys(), ...keptNames()]);
+  return [...names].map(name => {
+    const [room, day] = name.split(' '), kept = sheets.has(name) ? null : keptSheet(room, day);
+    return { room, day, rows: kept ? readSheet(kept.text) : (sheets.get(name) || {}).rows || [] };
+  }).filter(({ room }) => office.rooms.some(each => each.name === room));
 }
 
 /** What became of a request, or null where the office doesn't know it. */

@@ -1,7 +1,8 @@
 # The rooms that an office's page shows, in its file rooms.json, which people edit by hand and which this keeps as it is:
 #
 #     perl page_rooms.pl FILE                  prints a line `NAME<tab>LABEL` for each
-#     perl page_rooms.pl FILE ROOM LABEL       prints the file with this room behind the others
+#     perl page_rooms.pl FILE ROOM LABEL [SEATS [EQUIPMENT..]]
+#                                              prints the file with this room behind the others
 #
 # The status is 1 where the file has no list of rooms that can be read.
 use strict;
@@ -38,33 +39,42 @@ sub text_of {
 
 sub show {
     my ($first, $last) = list_of(@_);
-    my ($name, $label);
+    my ($depth, $name, $label) = (0);
     for my $i ($first .. $last) {
         my $piece = $_[$i];
-        $name  = text_of($_[ $i + 2 ]) if $piece eq '"name"' and $_[ $i + 1 ] =~ /^\s*:/;
-        $label = text_of($_[ $i + 2 ]) if $piece eq '"label"' and $_[ $i + 1 ] =~ /^\s*:/;
-        next unless $piece !~ /^"/ and $piece =~ /\}/ and defined $name;
-        print "$name\t", $label // $name, "\n";
-        ($name, $label) = ();
+        my $is_member = $depth == 1 && $i + 2 <= $#_ && $_[ $i + 1 ] =~ /^\s*:/;
+        $name  = text_of($_[ $i + 2 ]) if $is_member and $piece eq '"name"';
+        $label = text_of($_[ $i + 2 ]) if $is_member and $piece eq '"label"';
+        next if $piece =~ /^"/;
+        # what stands within a room in braces of its own is none of its name
+        while ($piece =~ /([{}])/g) {
+            $depth += $1 eq '{' ? 1 : -1;
+            next if $1 eq '{' or $depth;
+            print "$name\t", $label // $name, "\n" if defined $name;
+            ($name, $label) = ();
+        }
     }
 }
 
 sub with_room {
-    my ($room, $label, @pieces) = @_;
+    my ($words, @pieces) = @_;
+    my ($room, $label, $seats, @has) = @$words;
     my ($first, $last, $end) = list_of(@pieces);
     my $is_empty = $first == $last;
     my $before = substr $pieces[$last], 0, $end - 1;
     my $after = substr $pieces[$last], $end - 1;
     my ($space) = $before =~ /(\s*)\z/;
     $before =~ s/\s*\z//;
-    $label =~ s/(["\\])/\\$1/g;
+    s/(["\\])/\\$1/g for $label, @has;
     my $indent = "$space  ";
-    $pieces[$last] = $before . ($is_empty ? '' : ',') . "$indent\{ \"name\": \"$room\", \"label\": \"$label\" }$space$after";
+    my $more = defined $seats ? ", \"seats\": $seats" : '';
+    $more .= ', "has": [' . join(', ', map { "\"$_\"" } @has) . ']' if @has;
+    $pieces[$last] = $before . ($is_empty ? '' : ',') . "$indent\{ \"name\": \"$room\", \"label\": \"$label\"$more }$space$after";
     return join '', @pieces;
 }
 
 my ($file, @room) = @ARGV;
 open my $lines, '<', $file // '' or fail("it can't be read: $!");
 my @pieces = pieces(do { local $/; <$lines> // '' });
-if   (@room == 2) { print with_room(@room, @pieces) }
+if   (@room >= 2) { print with_room(\@room, @pieces) }
 else              { show(@pieces) }

@@ -38,7 +38,7 @@ refused_offices() {
     refuses 'a room twice' 1 'the room elm stands there twice' make east 2 1 $((port + 2)) $((port + 3)) elm oak elm
     refuses 'a name that is none' 1 "a name is a letter and at most 15 letters and digits, not 'East'" make East 2 1 $((port + 2)) $((port + 3)) oak
     refuses 'too few words' 2 'the words are: make NAME SERVER PRIMARY PORT TLS ROOM.. (rooms-office --help has them all)' make east 2 1
-    refuses 'no verb' 2 'the words are: make, rooms, add-room, user, remove, rescue, anew, pack, unpack, serve, backup, carry or watch, and what each needs (rooms-office --help has them all)' other
+    refuses 'no verb' 2 'the words are: make, rooms, add-room, user, secret, remove, rescue, anew, pack, unpack, serve, backup, carry or watch, and what each needs (rooms-office --help has them all)' other
     python3 -c "import http.server; http.server.HTTPServer(('127.0.0.1', $((port + 2))), http.server.SimpleHTTPRequestHandler).serve_forever()" 2> /dev/null &
     serving+=($!)
     reached 'nothing listens' 10 taken $((port + 2))
@@ -84,8 +84,15 @@ ash              Ash, 3rd floor'
     refuses 'a room that is there' 1 'ash is on the page already: Ash, 3rd floor' add-room west ash Ash
     refuses 'a room that is no name' 1 "a room has 1 to 16 letters a to z, digits and hyphens, which 'Big Room' hasn't; a label may say more" \
         add-room west 'Big Room' x
-    refuses 'a room without its label' 2 'the words are: add-room NAME ROOM LABEL, with a label in quotes where it has spaces (rooms-office --help has them all)' \
+    refuses 'a room without its label' 2 'the words are: add-room NAME ROOM LABEL, with a label in quotes where it has spaces, then seats and equipment if you like (rooms-office --help has them all)' \
         add-room west yew
+    refuses 'seats that are no number' 1 "seats is a number from 1 to 9999, not 'many'" add-room west yew Yew many
+    refuses 'equipment with a line' 1 'a piece of equipment has 1 to 40 letters' add-room west yew Yew 8 $'a\nline'
+    is 'a room with seats and equipment' "$("$office" add-room west bay 'The bay' 8 screen 'a "white" board')" 'added bay (The bay) to west'
+    is 'the page has them' "$(python3 -c 'import json, sys; print(json.load(open(sys.argv[1]))["rooms"][-1])' "$json")" \
+        "{'name': 'bay', 'label': 'The bay', 'seats': 8, 'has': ['screen', 'a \"white\" board']}"
+    sed -i 's/"label": "The bay",/"door": { "name": "none", "release": 10 }, &/' "$json"
+    is 'what a room has in braces is none of its name' "$("$office" rooms west | tail -n 1)" 'bay              The bay'
     refuses 'a room of no office' 1 "there is no $ROOMS_ETC/north.conf that can be read" add-room north yew Yew
     "$ROOMS_PROGRAM" add-room "$ROOMS_STATE/west/rooms.db" fir > /dev/null
     is 'a room that the database alone has' "$("$office" rooms west | tail -n 1)" 'fir              (in the database, and not on the page)'
@@ -103,7 +110,7 @@ ash              Ash, 3rd floor'
     is 'a room is added while it is served' "$("$office" add-room west box 'The "box"')" 'added box (The "box") to west'
     is 'it can be booked' "$(curl -s "http://127.0.0.1:$(sed -n 's/^PORT=//p' "$ROOMS_ETC/west.conf")/rooms/box/errors" --retry 5 --retry-connrefused | head -n 1)" \
         'box errors'
-    is 'the rooms while it is served' "$("$office" rooms west | grep -c .)" 6
+    is 'the rooms while it is served' "$("$office" rooms west | grep -c .)" 7
     "$ROOMS_PROGRAM" init "$folder/north.db" 9 1 > /dev/null
     sed "s/^SERVER=.*/SERVER=9/" "$ROOMS_ETC/west.conf" > "$ROOMS_ETC/north.conf"
     cp "$json" "$ROOMS_ETC/north.rooms.json"
@@ -142,9 +149,9 @@ deploy_made_offices() {
     export ROOMS_ETC ROOMS_STATE ROOMS_SHARE ROOMS_USER ROOMS_PROGRAM
     local -x LC_ALL=C ROOMS_CALENDAR=$deploy/calendar/rooms-calendar ROOMS_CALENDARS=$folder/calendars
     mkdir -p "$ROOMS_SHARE" "$ROOMS_ETC" "$ROOMS_STATE" "$ROOMS_CALENDARS/east"
-    cp -r "$deploy/page" "$deploy/front" "$deploy/news" "$deploy/proxy/office.conf.in" "$deploy/systemd/office.settings.in" "$deploy/systemd/page_rooms.pl" \
+    cp -r "$deploy/page" "$deploy/front" "$deploy/news" "$deploy/report" "$deploy/proxy/office.conf.in" "$deploy/systemd/office.settings.in" "$deploy/systemd/page_rooms.pl" \
         "$ROOMS_SHARE"
-    for script in "$office" "$deploy/courier/rooms-courier" "$deploy/check/rooms-check" "$deploy/calendar/rooms-calendar" "$deploy/package/build" "$deploy/tests/alone" \
+    for script in "$office" "$deploy/courier/rooms-courier" "$deploy/check/rooms-check" "$deploy/calendar/rooms-calendar" "$deploy/report/rooms-report" "$deploy/package/build" "$deploy/tests/alone" \
         "$deploy/tests/under_systemd"; do
         held "${script##*/} --help" eval '[ "$("$script" --help 2>&1 | wc -c)" -gt 70 ] && "$script" -h > /dev/null'
     done

@@ -138,7 +138,7 @@ def the_address():
     page.until('an address that is written', '#sheet-title', 'Free rooms, Friday 2095-12-23')
     today = datetime.date.today().isoformat()
     for address, words in (('#2026-13-77', 'There is no day 2026-13-77'), ('#2026-02-30', 'There is no day 2026-02-30'),
-                           (f'#{DAY}/month/room-a', 'There is no view month'), (f'#{DAY}/day/attic', 'There is no room attic')):
+                           (f'#{DAY}/year/room-a', 'There is no view year'), (f'#{DAY}/day/attic', 'There is no room attic')):
         show(address, again=True)
         page.until(f'{address} has a word', '#word', words)
         page.until(f'{address} shows a sheet', '#grid', 'Room A')
@@ -286,10 +286,10 @@ def access():
         check(f'a screen reader hears {wanted}', wanted in names, names[:20])
     reached = []
     page.run('document.activeElement.blur(); window.scrollTo(0, 0)')
-    for _ in range(40):
+    for _ in range(55):
         page.keys('\ue004')
         reached.append(page.run('const at = document.activeElement; return at.id || at.dataset.view || (at.dataset.key && "grid") || at.tagName'))
-    for wanted in ('skip', 'day', 'week', 'find', 'before', 'today', 'after', 'at-room', 'print-door', 'door-link', 'calendar-link', 'grid', 'room', 'wish-day',
+    for wanted in ('skip', 'day', 'week', 'month', 'coming', 'find', 'search', 'before', 'today', 'after', 'at-room', 'print-door', 'door-link', 'calendar-link', 'grid', 'room', 'wish-day',
                    'wish-start', 'length', 'title', 'send', 'clear'):
         check(f'Tab reaches {wanted}', wanted in reached, reached)
     check('the grid is one stop', reached.count('grid') == 1, reached)

@@ -174,7 +174,7 @@ begin() {
     if [ -L "/etc/nginx/sites-enabled/rooms-$name" ] && [ "$etc" = /etc/rooms ]; then linked=yes; fi
     away=$(remove | sed -n 's/^removed .*: all it had is in \([^ ]*\)\. .*/\1/p')
     [ -n "$away" ] || fail "$name could not be put away"
-    for file in "$away/settings"/*; do cp -p -- "$file" "$etc" || fail "$file can't be taken back"; done
+    for file in "$away/settings"/*; do cp -pPR -- "$file" "$etc" || fail "$file can't be taken back"; done
     sed -i "s/^SERVER=.*/SERVER=$server/; s/^PRIMARY=.*/PRIMARY=$primary/" "$etc/$name.conf" || exit 1
     # shellcheck disable=SC2046
     install -d -m 700 $([ -z "$user" ] || echo "-o $user -g $user") -- "$state" || exit 1
