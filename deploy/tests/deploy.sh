@@ -425,6 +425,18 @@ asked_positions() { wc -l < "$ROOMS_CALENDARS/east/callers/offices"; }
 
 has_asked() { [ "$(asked_positions)" -ge "$1" ]; }
 
+# elsewhere_of OFFICE PEER..: what its page is told of rooms that it doesn't show
+elsewhere_of() {
+    perl "$ROOMS_SHARE/news/status.pl" "$1" "$ROOMS_STATE/$1/rooms.db" 60 "${@:2}"
+    grep -o '"elsewhere":.*' "$ROOMS_CALENDARS/$1/status.json"
+}
+
+rooms_for_the_pages() {
+    is 'the page is told of the room of the peer' "$(elsewhere_of west east=https://localhost)" '"elsewhere":[{"room":"ash","label":"Ash, 3rd floor","known":false,"office":"east"}]}'
+    is 'that of the peer too, by who called' "$(elsewhere_of east)" '"elsewhere":[{"room":"elm","label":"elm","known":false,"office":"offices"}]}'
+    is 'whoever reads may read what the proxy wrote' "$(stat -c %a "$ROOMS_CALENDARS/east/elsewhere/offices")" 604
+}
+
 # where it stays, one connection is for all that is asked, and few bytes go; what comes up is carried
 deploy_staying() {
     local folder=$deploy_scratch file=$deploy_scratch/line.$((ports + 9)) before lines id
@@ -439,6 +451,7 @@ deploy_staying() {
     is 'a connection for the courier, one for the rooms each way, and one is open' "$(($(wc -l < "$file") - lines))" 3
     is 'the check has the rooms of the peer' "$("$deploy/check/rooms-check" west | grep -o 'at another office alone: [^;]*')" 'at another office alone: ash'
     is 'and the check of the peer has ours' "$("$deploy/check/rooms-check" east | grep -o 'at another office alone: [^;]*')" 'at another office alone: elm'
+    rooms_for_the_pages
     through 'the rooms are not for everybody' 401 readers /exchange/rooms
     through 'nor may everybody say theirs' 401 readers /exchange/rooms-of -T /dev/null
     held 'a request at the peer' curl -s -f -d '{"room":"oak","day":"1995-12-20","start":"09:00","length":60,"title":"Stay"}' "http://127.0.0.1:$((ports + 2))/submit"
