@@ -16,6 +16,7 @@ try:
 except ImportError:
     icalendar = None
 
+OF_THE_MTA = {'return-path', 'envelope-to', 'received', 'sender'}
 HEADERS = {'from', 'to', 'subject', 'date', 'message-id', 'references', 'auto-submitted', 'mime-version', 'content-type', 'content-transfer-encoding'}
 
 
@@ -27,8 +28,8 @@ def faults(raw, message):
         yield 'a line that is too long'
     if any(len(it) > 76 for it in head.split(b'\n') if b'=?' in it) or re.search(rb'=\?[^ ]{72,}\?=', head):
         yield 'an encoded word that is too long'
-    names = [it.lower() for it in message.keys()]
-    if sorted(set(names)) != sorted(names) or set(names) - HEADERS - {'return-path', 'envelope-to', 'received', 'sender', 'delivered-to'}:
+    names = [it.lower() for it in message.keys() if it.lower() not in OF_THE_MTA]
+    if sorted(set(names)) != sorted(names) or set(names) - HEADERS:
         yield f'headers {names}'
     for part in message.walk():
         for it in part.defects:
