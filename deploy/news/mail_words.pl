@@ -78,7 +78,7 @@ sub text_lines {
     my $is_there = $news->{place} =~ /^\d/;
     return ($news->{title}, $news->{label} . ($slot ? ', ' . ($is_there ? '' : $slot eq $news->{before} ? 'before: ' : 'asked for: ') . slot_words($slot) : '')
         . ($slot && $news->{zone} ? " ($news->{zone})" : ''), '', join(' ', what_became($news), what_may_be($news)), '',
-        "Request $news->{id}, $news->{office}. This address was given for it, and gets what becomes of it, until its day is over. Nobody reads replies.");
+        "Request $news->{id}, $news->{office}. This address was given for it, and gets what becomes of it, until its day is over. If you know nothing of it, tell the desk.");
 }
 
 1;

@@ -72,7 +72,7 @@ Oak, 2nd floor, Tue 2030-03-05, 13:00 to 14:00 (Europe/Berlin)
 
 It is booked. It is not final yet: until the offices have met it may move or lose its room. You get a mail if it does, and one when it is final.
 
-Request 2-6, Offices of the north. This address was given for it, and gets what becomes of it, until its day is over. Nobody reads replies."
+Request 2-6, Offices of the north. This address was given for it, and gets what becomes of it, until its day is over. If you know nothing of it, tell the desk."
     takes "W 1 4 100 oak 30 $day 13:30 0 Earlier" "W 1 5 101 oak 30 $day 16:30 0 Late"
     mail_round
     is 'what they say of a merge' "$(texts_of)" 'It had Tue 2030-03-05, 13:00 to 14:00, and lost it to an earlier request. It may still get a room until the offices have met. If you can do without it, have it withdrawn.
@@ -229,7 +229,10 @@ $(sed -n '/^Message-ID/p' "$folder/second")"
 # ---- handing over
 
 # waits NUMBER ADDRESS: a mail that waits
-waits() { printf 'To: %s\nSubject: %s\nDate: %s\nMessage-ID: <%s@x>\n\ntext\n' "$2" "$1" "$(date -R)" "$1" > "$ROOMS_STATE/west/mail/waiting/1764536710.1-$1.1"; }
+waits() {
+    printf 'To: %s\nSubject: %s\nDate: %s\nMessage-ID: <%s@x>\n\ntext\n' "$2" "$1" "$(date -R)" "$1" > "$ROOMS_STATE/west/mail/waiting/1764536710.1-$1.1"
+    chmod 600 "$ROOMS_STATE/west/mail/waiting/1764536710.1-$1.1"
+}
 
 # a sendmail that keeps what it gets, takes nothing for `bad`, and for `late` kills who called it
 fake_sendmail() {
@@ -271,9 +274,10 @@ mails_handed_over() {
 mails sent: 1
 -t -i bad@localhost
 -t -i anna@localhost"
-    touch -d '20 minutes ago' "$ROOMS_STATE/west/mail/waiting/1764536710.1-3.1"
-    held 'the check names it' eval '"$deploy/check/rooms-check" west | grep -qF "MAILS COULD NOT BE SENT (1, the oldest from 20 min ago)"'
+    held 'the check names it' eval '"$deploy/check/rooms-check" -t west | grep -qx "MAILS COULD NOT BE SENT (journalctl -u rooms-mail@west)"'
     touch "$folder/good"
+    is 'it is not tried again at once' "$(sends)" ''
+    touch -d '11 minutes ago' "$ROOMS_STATE/west/mail/waiting/1764536710.1-3.1"
     is 'and goes in a later round' "$(sends)" 'mails sent: 1
 -t -i bad@localhost'
     rm "$folder/good"
@@ -347,7 +351,7 @@ mails_through_an_mta() {
     held 'the mail comes' until_held 60 in_the_box "anna@localhost: Final: $subject | PUBLISH CONFIRMED 20300304T133000 [01]"
     held 'a cancel' until_held 60 curl -s -f -m 30 --cacert "$ROOMS_ETC/west.crt" -u bookers:bookers -d '{"room":"oak","id":"1-1"}' "https://localhost:$((ports + 1))/cancel"
     held 'its mail comes' until_held 60 in_the_box "anna@localhost: Cancelled: $subject | CANCEL CANCELLED 20300304T133000 [12]"
-    is 'with the text behind a line that is a dot' "$(python3 -B "$deploy/tests/mail_read.py" -t "$post/box/box" | grep -c '^Request 1-1, Rooms of west. .* Nobody reads replies.$')" 2
+    is 'with the text behind a line that is a dot' "$(python3 -B "$deploy/tests/mail_read.py" -t "$post/box/box" | grep -c '^Request 1-1, Rooms of west. .* tell the desk.$')" 2
     is 'from the address of the settings' "$(grep -c '^From: "Rooms of west" <desk@localhost>$' "$post/box/box")" "$(grep -c '^Message-ID: ' "$post/box/box")"
     is 'nothing twice' "$(grep '^Message-ID: ' "$post/box/box" | sort | uniq -d)" ''
     held 'it is forgotten then' until_held 60 eval '! grep -q anna "$ROOMS_STATE/west/mail/records"'

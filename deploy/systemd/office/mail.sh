@@ -18,7 +18,8 @@ send_one() {
     return 1
 }
 
-# Mails that could not be sent go behind the others, and are given up after two days; after three in a row the next round goes on.
+# Mails that could not be sent are tried again after ten minutes (by then nobody may write their files: so they are known), and given up after two
+# days; after three in a row the next round goes on.
 send_mails() {
     local sendmail folder=$state/mail/waiting file failed=0 sent=0
     [ -d "$folder" ] || return 0
@@ -34,7 +35,7 @@ send_mails() {
             failed=$((failed + 1))
             give_up "$folder/$file"
         fi
-    done < <(find "$folder" -maxdepth 1 -type f ! -name '*.*.*.*' -printf '%T@ %f\n' | sort -n)
+    done < <(find "$folder" -maxdepth 1 -type f ! -name '*.*.*.*' \( -perm 600 -o -mmin +9 \) -printf '%T@ %f\n' | sort -n)
     [ "$sent" = 0 ] || echo "mails sent: $sent"
     [ "$failed" = 0 ]
 }
@@ -48,5 +49,6 @@ give_up() {
         rm -f -- "$1"
     else
         touch -- "$1"
+        chmod 400 -- "$1"
     fi
 }
