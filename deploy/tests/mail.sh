@@ -175,6 +175,7 @@ new_odd() { python3 -B "$deploy/tests/mail_read.py" -t "$ROOMS_STATE"/south/mail
 mails_that_are_cut() {
     local sent=$folder/sent hour number id other
     mkdir -p "$sent"
+    printf '{"rooms": []}\n' > "$ROOMS_ETC/south.rooms.json"
     rm -f "$ROOMS_STATE"/south/mail/waiting/* "$ROOMS_STATE/south/mail/records"
     for number in {1..60}; do printf 'anna@localhost' > "$ROOMS_CALENDARS/south/mail/2-$number"; done
     for hour in 10 11 12 13 14; do
@@ -382,7 +383,6 @@ run_mail() {
     north=$ROOMS_STATE/north/rooms.db
     mkdir -p "$folder" "$ROOMS_STATE"/{north,south} "$ROOMS_CALENDARS"/{north,south}/mail
     printf '{"office": "Offices of the north", "zone": "Europe/Berlin", "rooms": [{"name": "oak", "label": "Oak, 2nd floor"}]}\n' > "$ROOMS_ETC/north.rooms.json"
-    printf '{"rooms": []}\n' > "$ROOMS_ETC/south.rooms.json"
     "$program" init "$north" 2 1 > /dev/null
     "$program" add-room "$north" oak > /dev/null
     mail_round
