@@ -43,6 +43,7 @@ deploy_texts 60
 front 90
 courier 20
 news 120
+mail 120
 poor_lines 120
 poor_week 100
 offices 90

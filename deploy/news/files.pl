@@ -1,8 +1,9 @@
-# What news.pl and status.pl have in common: the program is asked, and files are written as JSON, whole or not at all.
+# What news.pl, status.pl and mail.pl have in common: the program is asked, the rooms of a page are read, and files are written as JSON, whole or not at all.
 use strict;
 use IO::Handle;
 
 our $program = $ENV{ROOMS_PROGRAM} || 'rooms';
+my $share = $ENV{ROOMS_SHARE} || '/usr/share/rooms';
 
 # What the program prints with these words.
 sub ask {
@@ -15,6 +16,18 @@ sub ask {
     my $text = <$lines> // '';
     close $lines;
     return $text;
+}
+
+# The rooms of a page with their labels, in turn.
+sub rooms_of_page {
+    my ($file) = @_;
+    return unless -r $file;
+    my $child = open(my $lines, '-|') // return;
+    if (not $child) {
+        open STDERR, '>', '/dev/null';
+        exec 'perl', "$share/page_rooms.pl", $file or exit 1;
+    }
+    return map { /^([a-z0-9-]{1,16})\t(.*)$/ ? [ $1, $2 ] : () } <$lines>;
 }
 
 # A text of plain letters, or null, as JSON has it.

@@ -1,18 +1,20 @@
 # Writes how an office stands to the others, for its page and its doors, into /var/cache/rooms/NAME/status.json:
 #
-#     perl status.pl NAME DATABASE MINUTES PEER..
+#     perl status.pl NAME DATABASE MINUTES [mail] PEER..
 #
-# DATABASE is a copy that nothing changes meanwhile; an office that was not met for so many minutes is shown in red. A PEER is NAME=URL, one that
-# the courier calls: how it fared last is in /var/lib/rooms/NAME/carried (lines `SECONDS STATUS URL WORDS`), when each was met last is kept in
-# peers.met beside it (lines `URL SECONDS`). Who calls this office is known by the files of the proxy, /var/cache/rooms/NAME/callers/USER, which
-# were changed when that user was answered last; their lines are dropped once they are many.
+# DATABASE is a copy that nothing changes meanwhile; an office that was not met for so many minutes is shown in red; with the word `mail` the page asks
+# for a mail address. A PEER is NAME=URL, one that the courier calls: how it fared last is in /var/lib/rooms/NAME/carried (lines `SECONDS STATUS URL
+# WORDS`), when each was met last is kept in peers.met beside it (lines `URL SECONDS`). Who calls this office is known by the files of the proxy,
+# /var/cache/rooms/NAME/callers/USER, which were changed when that user was answered last; their lines are dropped once they are many.
 use strict;
 
 my $share = $ENV{ROOMS_SHARE} || '/usr/share/rooms';
 require "$share/news/files.pl";
+require "$share/news/elsewhere.pl";
 
 my ($name, $database, $minutes, @peers) = @ARGV;
-die "the words are: status.pl NAME DATABASE MINUTES PEER..\n" if @ARGV < 3 or $minutes !~ /^[1-9]\d{0,5}$/ or grep { !/^[^=]+=./ } @peers;
+my $may_mail = @peers && $peers[0] eq 'mail' ? shift @peers && 'true' : 'false';
+die "the words are: status.pl NAME DATABASE MINUTES [mail] PEER..\n" if @ARGV < 3 or $minutes !~ /^[1-9]\d{0,5}$/ or grep { !/^[^=]+=./ } @peers;
 my $state = ($ENV{ROOMS_STATE} || '/var/lib/rooms') . "/$name";
 my $folder = ($ENV{ROOMS_CALENDARS} || '/var/cache/rooms') . "/$name";
 my $MANY = 65536;
@@ -80,5 +82,5 @@ my $requests = 0;
 $requests += $1 while $position =~ /^V \d+ (\d+)$/mg;
 my ($made) = join('', read_lines("$folder/news.json")) =~ /"made":"([^"]+)"/;
 put_file("$folder/status.json", 0640, '{"made":' . quoted(moment(time)) . ',"news":' . quoted($made),
-    ",\"server\":$server,\"primary\":$primary,\"requests\":$requests,\"tentative\":", $requests - $commits, ",\"red_minutes\":$minutes",
-    ',"peers":[', peers_json(), '],"callers":[', callers_json(), "]}\n");
+    ",\"server\":$server,\"primary\":$primary,\"requests\":$requests,\"tentative\":", $requests - $commits, ",\"mail\":$may_mail,\"red_minutes\":$minutes",
+    ',"peers":[', peers_json(), '],"callers":[', callers_json(), '],"elsewhere":[', elsewhere_json($name, $database, map { /^([^=]+)=/ } @peers), "]}\n");

@@ -2,7 +2,7 @@
 // and shows every text of theirs as text. `rooms.json` names the rooms.
 //
 // texts.js has what needs no reply, office.js asks; over them stand states.js, cancel.js and box.js (any request), mine.js over follow.js
-// (this browser's own), offers.js and wish.js under form.js (what is asked for), anyroom.js over find.js and needs.js,
+// (this browser's own), offers.js, mail.js and wish.js under form.js (what is asked for), anyroom.js over find.js and needs.js,
 // grid.js, month.js, coming.js and search.js (looking), newslist.js over news.js, and this file.
 // Each of the lower ones reaches the page as a whole by `page` of office.js.
 import { byId, el, dayBeside, FIRST, isDay, LAST, MIDNIGHT, put, timeOf, weekday } from './texts.js';
@@ -14,6 +14,8 @@ import { submit } from './form.js';
 import { showForm, startOver, typed } from './wish.js';
 import { standsForNone } from './offers.js';
 import { showMet } from './met.js';
+import { showElsewhere } from './elsewhere.js';
+import { showMailField } from './mail.js';
 import { askNews, status } from './news.js';
 import { openNews, showNews } from './newslist.js';
 import { dropOldSheets } from './kept.js';
@@ -126,6 +128,8 @@ function show() {
   showForm();
   showNews();
   showMet(byId('met'), status);
+  showElsewhere(byId('elsewhere'), status);
+  showMailField();
 }
 
 function showHead() {

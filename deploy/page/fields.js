@@ -1,7 +1,7 @@
 // The fields of the request form, and what is said beside each that is at fault.
 import { byId } from './texts.js';
 
-const FIELDS = { room: 'room', day: 'wish-day', start: 'wish-start', length: 'length', choices: 'choices', title: 'title', send: 'send' };
+const FIELDS = { room: 'room', day: 'wish-day', start: 'wish-start', length: 'length', choices: 'choices', title: 'title', mail: 'mail', send: 'send' };
 
 export function complain(field, ...words) {
   byId(field + '-error').replaceChildren(...words);

@@ -3,6 +3,7 @@ import { byId, buttonOf, hoursText, isDay, isPlain, plainOf, weekday } from './t
 import { Fault, ask, askMayBook, askSheet, labelOf, now, page } from './office.js';
 import { calm, complain } from './fields.js';
 import { addMine, dropMine, keepMine, replied } from './mine.js';
+import { giveAddress, isMailWell } from './mail.js';
 import { showOffers, standsFor, withdrawFirsts } from './offers.js';
 import { sure } from './question.js';
 import { report, stateOf } from './states.js';
@@ -30,6 +31,7 @@ function readForm() {
   if (!length) return complain('length', LENGTH), null;
   if (!isPlain(title)) return offerPlain(plainOf(title)), null;
   if (title.length > LONGEST) return complain('title', REFUSALS[5][1] + ' This one has ' + title.length + '.'), null;
+  if (!isMailWell()) return null;
   return { ...slots(), length, title };
 }
 
@@ -106,6 +108,7 @@ async function send(asked) {
 async function accepted(entry, asked, outcome) {
   entry.first = entry.now = outcome;
   keepMine();
+  giveAddress(outcome);
   if (outcome.state !== 'booked') return noRoom(entry, asked);
   const place = (asked.alternatives || []).findIndex(slot => sameSlot(slot, outcome));
   const words = stateOf(outcome)[0] + ': ' + labelOf(asked.room) + ', ' + weekday(outcome.day) + ' ' + outcome.day + ', ' +

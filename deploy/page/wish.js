@@ -99,7 +99,7 @@ function takeRoom(room) {
 export function startOver() {
   alternatives = [];
   setWish({ day: '', start: '' });
-  byId('title').value = '';
+  byId('title').value = byId('mail').value = '';
   calm();
   page.show();
 }

@@ -14,6 +14,7 @@ deploy=$(cd -- "$(dirname -- "${BASH_SOURCE[0]}")/.." && pwd)
 . "$deploy/tests/news.sh"
 . "$deploy/tests/together.sh"
 . "$deploy/tests/looked.sh"
+. "$deploy/tests/mail.sh"
 
 # ---- texts that go with the program
 
@@ -107,7 +108,7 @@ deploy_offices() {
     is 'a list that is not there' "$("$deploy/systemd/rooms-office" user desk west.conf <<< desk 2>&1)" \
         "rooms-office: no list is named 'west.conf'"
     sed -i "s,/var/cache/rooms,$ROOMS_CALENDARS,g; s,/var/log/nginx,$deploy_scratch," "$ROOMS_ETC"/*.nginx
-    mkdir -p "$ROOMS_CALENDARS"/{west,east}/{told,callers,elsewhere,here}
+    mkdir -p "$ROOMS_CALENDARS"/{west,east}/{told,callers,elsewhere,here,mail}
     # a machine without IP version 6
     if [ ! -e /proc/net/if_inet6 ]; then sed -i '/listen \[::\]/d' "$ROOMS_ETC"/*.nginx; fi
     west=$ROOMS_STATE/west/rooms.db
@@ -197,6 +198,30 @@ deploy_marks() {
     rm "$ROOMS_CALENDARS/west/news.json"
 }
 
+# addresses are taken in, and nobody reads them by the proxy
+deploy_addresses() {
+    local path=/mail/1-17
+    through 'an address by a reader' 401 readers "$path" -X PUT -d anna@localhost
+    through 'an address without a password' 401 '' "$path" -X PUT -d anna@localhost
+    through 'an address by another site' 403 bookers "$path" -X PUT -d anna@localhost -H 'Sec-Fetch-Site: cross-site'
+    through 'an address' 201 bookers "$path" -X PUT -d anna@localhost
+    through 'another one in its place' 204 bookers "$path" -X PUT -d bert@localhost
+    through 'an address of no request' 404 bookers /mail/1-0 -X PUT -d anna@localhost
+    through 'an address elsewhere' 404 bookers '/mail/..%2f1-17' -X PUT -d anna@localhost
+    through 'an address that is too long' 413 bookers "$path" -X PUT -d "$(printf 'a%.0s' {1..400})"
+    through 'an address is not removed' 403 bookers "$path" -X DELETE
+    through 'an address is not read' 403 bookers "$path"
+    through 'nor by one who reads' 403 readers "$path"
+    through 'nor where they lie' 404 readers /mail/
+    through 'nor by another way' 404 readers /told/../mail/1-17
+    through 'nor beside the calendars' 404 readers /mail/1-17.ics
+    is 'it is there' "$(cat "$ROOMS_CALENDARS/west/mail/1-17")" bert@localhost
+    is 'for the service, whose folder nobody else may read' "$(stat -c %a "$ROOMS_CALENDARS/west/mail/1-17") $(grep -oE '2730 .*/mail$' "$deploy/systemd/rooms-serve@.service")" \
+        '604 2730 -o rooms -g www-data /var/cache/rooms/%i/mail'
+    is 'no log has it' "$(grep -lE 'anna|bert' "$deploy_scratch/access.log" "$deploy_scratch"/nginx/* 2> /dev/null)" ''
+    rm "$ROOMS_CALENDARS/west/mail/1-17"
+}
+
 deploy_proxy() {
     local day=/rooms/oak/days/1995-12-18 json='{"room":"oak","day":"1995-12-18","start":"13:30","length":60,"title":"Budget Meeting"}'
     local cancel='{"id":"7-1","room":"oak"}' sheet='oak 1995-12-18 Monday
@@ -238,6 +263,7 @@ deploy_proxy() {
     through 'a body that is too large' 413 bookers /submit --data-binary "@$deploy_scratch/large" -H 'Expect:'
     through 'a path that is not served' 404 readers /calendar
     deploy_marks
+    deploy_addresses
     through 'the position of an office' 200 offices /position
     is 'who called' "$(ls "$ROOMS_CALENDARS/west/callers")" offices
     held 'and in the log of all' grep -q ' offices .*"GET /position HTTP/1.1" 200 ' "$deploy_scratch/access.log"
@@ -400,6 +426,18 @@ asked_positions() { wc -l < "$ROOMS_CALENDARS/east/callers/offices"; }
 
 has_asked() { [ "$(asked_positions)" -ge "$1" ]; }
 
+# elsewhere_of OFFICE PEER..: what its page is told of rooms that it doesn't show
+elsewhere_of() {
+    perl "$ROOMS_SHARE/news/status.pl" "$1" "$ROOMS_STATE/$1/rooms.db" 60 "${@:2}"
+    grep -o '"elsewhere":.*' "$ROOMS_CALENDARS/$1/status.json"
+}
+
+rooms_for_the_pages() {
+    is 'the page is told of the room of the peer' "$(elsewhere_of west east=https://localhost)" '"elsewhere":[{"room":"ash","label":"Ash, 3rd floor","known":false,"office":"east"}]}'
+    is 'that of the peer too, by who called' "$(elsewhere_of east)" '"elsewhere":[{"room":"elm","label":"elm","known":false,"office":"offices"}]}'
+    is 'whoever reads may read what the proxy wrote' "$(stat -c %a "$ROOMS_CALENDARS/east/elsewhere/offices")" 604
+}
+
 # where it stays, one connection is for all that is asked, and few bytes go; what comes up is carried
 deploy_staying() {
     local folder=$deploy_scratch file=$deploy_scratch/line.$((ports + 9)) before lines id
@@ -414,6 +452,7 @@ deploy_staying() {
     is 'a connection for the courier, one for the rooms each way, and one is open' "$(($(wc -l < "$file") - lines))" 3
     is 'the check has the rooms of the peer' "$("$deploy/check/rooms-check" west | grep -o 'at another office alone: [^;]*')" 'at another office alone: ash'
     is 'and the check of the peer has ours' "$("$deploy/check/rooms-check" east | grep -o 'at another office alone: [^;]*')" 'at another office alone: elm'
+    rooms_for_the_pages
     through 'the rooms are not for everybody' 401 readers /exchange/rooms
     through 'nor may everybody say theirs' 401 readers /exchange/rooms-of -T /dev/null
     held 'a request at the peer' curl -s -f -d '{"room":"oak","day":"1995-12-20","start":"09:00","length":60,"title":"Stay"}' "http://127.0.0.1:$((ports + 2))/submit"
@@ -601,8 +640,8 @@ deploy_units() {
     mkdir -p "$folder"
     cp -r "$deploy"/systemd/rooms-*@* "$deploy"/systemd/rooms-.service.d "$folder"
     sed -i "s,/usr/bin/rooms-office,$deploy/systemd/rooms-office," "$folder"/*.service
-    for name in serve courier backup watch; do cp "$folder/rooms-$name@.service" "$folder/rooms-$name@west.service"; done
-    for name in courier backup watch; do cp "$folder/rooms-$name@.timer" "$folder/rooms-$name@west.timer"; done
+    for name in serve courier backup watch mail; do cp "$folder/rooms-$name@.service" "$folder/rooms-$name@west.service"; done
+    for name in courier backup watch mail; do cp "$folder/rooms-$name@.timer" "$folder/rooms-$name@west.timer"; done
     is 'the units are verified' "$(SYSTEMD_UNIT_PATH=$folder: systemd-analyze verify --man=no --recursive-errors=no \
         "$folder"/rooms-*@west.* 2>&1)" ''
     for name in serve courier backup; do
@@ -681,6 +720,9 @@ deploy_page() {
     "$program" book "$folder/news.db" oak 60 2095-12-19 14:00 'All hands' > /dev/null
     page_test mine.py
     page_test news.py
+    "$program" init "$folder/mails.db" 2 1 > /dev/null
+    "$program" add-room "$folder/mails.db" oak > /dev/null
+    page_test mails.py
 }
 
 # deploy_rooms DB: a replica with twelve rooms and some bookings, two of them committed
@@ -771,6 +813,7 @@ run_deploy() {
     run_front
     run_courier
     run_news
+    run_mail
     run_poor_lines
     run_poor_week
     run_offices

@@ -84,9 +84,28 @@ status() {
 print(*[json.load(sys.stdin)[word] for word in sys.argv[1:]])' "$@" < "$ROOMS_CALENDARS/north/status.json"
 }
 
+# rooms that the page doesn't show: what the courier brought of a peer's page, and of one that calls; and what the database has
+rooms_elsewhere() {
+    local json=$ROOMS_ETC/north.rooms.json
+    mkdir -p "$ROOMS_STATE/north/known" "$ROOMS_CALENDARS/north/elsewhere"
+    printf '{"rooms": [{"name": "oak"}, {"name": "ash", "label": "Ash \\"3\\" \\\\ grün"}]}' > "$ROOMS_STATE/north/known/rooms.0"
+    printf '{"rooms": [{"name": "yew", "label": "bad \377"}, {"name": "No"}, {"name": "ash"}]}' > "$ROOMS_CALENDARS/north/elsewhere/west"
+    printf 'no list' > "$ROOMS_CALENDARS/north/elsewhere/south"
+    is 'a page of no room that can be read says nothing' "$(perl "$deploy/news/status.pl" north "$north" 60 'east=https://east' && grep -o '"elsewhere":.*' "$ROOMS_CALENDARS/north/status.json")" '"elsewhere":[]}'
+    printf '{"rooms": [{"name": "elm"}]}' > "$json"
+    is 'rooms of other offices' "$(perl "$deploy/news/status.pl" north "$north" 60 'east=https://east' && grep -o '"elsewhere":.*' "$ROOMS_CALENDARS/north/status.json")" \
+        '"elsewhere":[{"room":"ash","label":"Ash \"3\" \\ grün","known":false,"office":"east"},{"room":"oak","label":"oak","known":true,"office":"east"},{"room":"yew","label":"bad ?","known":false,"office":"west"}]}'
+    held 'it is JSON' python3 -m json.tool "$ROOMS_CALENDARS/north/status.json"
+    printf '{"rooms": [{"name": "oak"}, {"name": "ash"}, {"name": "yew"}]}' > "$json"
+    is 'none where the page has them all' "$(perl "$deploy/news/status.pl" north "$north" 60 'east=https://east' && grep -o '"elsewhere":.*' "$ROOMS_CALENDARS/north/status.json")" '"elsewhere":[]}'
+    rm -r "$json" "$ROOMS_STATE/north/known" "$ROOMS_CALENDARS"/north/elsewhere/*
+}
+
 how_others_stand() {
-    is 'an office on its own' "$(perl "$deploy/news/status.pl" north "$north" 60 && sed 's/.*"red/"red/' "$ROOMS_CALENDARS/north/status.json")" \
-        '"red_minutes":60,"peers":[],"callers":[]}'
+    is 'an office on its own' "$(perl "$deploy/news/status.pl" north "$north" 60 && sed 's/.*"mail/"mail/' "$ROOMS_CALENDARS/north/status.json")" \
+        '"mail":false,"red_minutes":60,"peers":[],"callers":[],"elsewhere":[]}'
+    is 'one that asks for addresses' "$(perl "$deploy/news/status.pl" north "$north" 60 mail && grep -o '"mail":[a-z]*' "$ROOMS_CALENDARS/north/status.json")" '"mail":true'
+    rooms_elsewhere
     # eight writes by hand, all committed, and two since
     is 'what waits to be final' "$(perl "$deploy/news/status.pl" north "$north" 60; grep -oE '"(requests|tentative)":[0-9]*' "$ROOMS_CALENDARS/north/status.json" | tr '\n' ' ')" \
         '"requests":10 "tentative":2 '

@@ -17,7 +17,7 @@ tell() {
         timeout 60 "$etc/$name.tell" "$subject" <<< "$1"
         return
     fi
-    sendmail=$(PATH=$PATH:/usr/sbin command -v sendmail) || return 0
+    sendmail=$(mailer) || return 0
     printf 'To: %s\nSubject: %s\nAuto-Submitted: auto-generated\nContent-Type: text/plain; charset=utf-8\n\n%s\n' \
         "$MAIL_TO" "${subject:0:200}" "$1" | timeout 60 "$sendmail" -t
 }

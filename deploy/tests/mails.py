@@ -1,0 +1,159 @@
+#!/usr/bin/env python3
+"""The field for a mail address at the page, in a real browser, through nginx; and the rooms that other offices have.
+
+    mails.py PROGRAM FOLDER URL PORT FREE PICTURES ROOMS
+
+The words are those of desk.py. FOLDER has mails.db, a replica 2 of primary 1 with the room oak. What the office's service would write
+(status.json) is written here, into the folder of ROOMS_CALENDARS that the proxy serves, beside which the proxy puts addresses.
+"""
+
+import datetime
+import json
+import os
+import shutil
+import sys
+import time
+
+from colours import names_and_colours
+from page import DAY, Office, Page, check, write_rooms
+
+program, folder, url, port, free, pictures, rooms_json = sys.argv[1:]
+cache = os.path.join(os.environ['ROOMS_CALENDARS'], 'west')
+drop = os.path.join(cache, 'mail')
+ADDRESS = "o'brien+rooms@sub.example.org"
+ASH = {'room': 'ash', 'label': 'Ash, <b>3rd</b> floor', 'known': False, 'office': 'east'}
+BEECH = {'room': 'beech', 'label': 'beech', 'known': True, 'office': None}
+
+
+def write_status(**words):
+    made = datetime.datetime.now(datetime.timezone.utc).strftime('%Y-%m-%dT%H:%M:%SZ')
+    with open(os.path.join(cache, 'status.json.new'), 'w', encoding='ascii') as out:
+        json.dump({'made': made, 'news': None, 'server': 2, 'primary': 1, 'requests': 0, 'tentative': 0, 'red_minutes': 60, 'peers': [], 'callers': [], **words}, out)
+    os.replace(os.path.join(cache, 'status.json.new'), os.path.join(cache, 'status.json'))
+
+
+def addresses():
+    return {name: open(os.path.join(drop, name), encoding='ascii').read() for name in sorted(os.listdir(drop))}
+
+
+def books(time_of_day, title, address):
+    page.wish('oak', time_of_day, title)
+    page.write('#mail', address)
+    page.click('#send')
+
+
+def no_field():
+    page.sign_in()
+    page.open(f'{page.bare}/#{DAY}')
+    page.until('the page', '#grid', '09:00')
+    for words in ({}, {'mail': False}):
+        write_status(**words)
+        page.look()
+        time.sleep(1)
+        check(f'no mail, no field: {words}', page.text('#mail-field') == '', page.text('#mail-field'))
+
+
+def an_address():
+    write_status(mail=True)
+    page.look()
+    page.until('where mails can be sent there is one', '#mail-field', 'Mail address (may stay empty)')
+    check('it is for addresses', page.attribute('#mail', 'type') == 'email')
+    for wrong in ('anna', 'anna@', 'Anna <anna@example.org>', 'anna b@example.org', '-anna@example.org', 'müller@example.org', 'anna@example.org,eve@example.org'):
+        books('09:00', 'Budget', wrong)
+        page.until(f'no address: {wrong}', '#mail-error', 'That is no mail address')
+    check('the field is marked', page.attribute('#mail', 'aria-invalid') == 'true')
+    check('nothing was sent', 'Budget' not in page.text('#mine') and addresses() == {}, addresses())
+    names_and_colours(page, 'mail field')
+    page.picture_of('mail-field')
+    books('09:00', 'Budget', ADDRESS)
+    page.until('with one it is booked', '#outcome', 'Booked, not final yet')
+    page.until('and that is said', '#mail-word', f'{ADDRESS} gets a mail each time that something becomes of request 2-1.')
+    check('the proxy has it', addresses() == {'2-1': ADDRESS}, addresses())
+    check('the field is empty again', page.value('#mail') == '')
+    page.picture_of('mail-word')
+    kept = page.run('return JSON.stringify(localStorage) + document.cookie + document.querySelector("#mine").innerText')
+    check('the browser keeps it nowhere', 'brien' not in kept, kept)
+    seen = page.run('return fetch("/mail/2-1").then(reply => reply.status)')
+    check('and can\'t read it again', seen == 403, seen)
+    books('10:00', 'Without', '')
+    page.until('without one it is booked as ever', '#outcome', '10:00–11:00')
+    check('and nothing is handed over', page.text('#mail-word') == '' and list(addresses()) == ['2-1'], addresses())
+
+
+def no_room():
+    books('09:00', 'Squeezed in', ADDRESS)
+    page.until('a clash asks', '#question', 'Ask all the same?')
+    page.click('#question button.main')
+    page.until('no room', '#outcome', 'No room')
+    page.until('the address is taken all the same', '#mail-word', 'request 2-3')
+    check('and it says that there is no room yet', addresses()['2-3'] == ADDRESS + ' none', addresses())
+    check('the form stays as it was', page.value('#mail') == ADDRESS)
+    page.click('#clear')
+    check('until it is cleared', page.value('#mail') == '')
+
+
+def not_taken():
+    shutil.rmtree(drop)
+    books('13:00', 'Rota', ADDRESS)
+    page.until('what the proxy can\'t keep', '#mail-word', f'The address {ADDRESS} was not taken for request 2-4 (status ')
+    check('is said in red', page.attribute('#mail-word', 'class') == 'error')
+    page.until('and it is booked', '#outcome', 'Booked, not final yet')
+    os.makedirs(drop)
+    books('14:00', 'Next', '')
+    page.until('the next one', '#outcome', '14:00–15:00')
+    check('has nothing of it', page.text('#mail-word') == '')
+    os.remove(os.path.join(cache, 'status.json'))
+    page.look()
+    time.sleep(1)
+    check('where the state is not known for a moment the field stays', page.text('#mail-field') != '')
+
+
+def rooms_elsewhere():
+    check('no line of rooms elsewhere', page.text('#elsewhere') == '')
+    write_status(elsewhere=[ASH], mail=True)
+    page.look()
+    page.until('a room that another office alone has', '#elsewhere', 'Another office has: Ash, <b>3rd</b> floor (ash), of east. This office doesn’t know it yet, and can’t book there.')
+    page.until('and what to do', '#elsewhere', 'Whoever looks after this office adds a room to it by rooms-office add-room.')
+    check('a label is text', not page.has('#elsewhere b'))
+    page.picture_of('elsewhere')
+    names_and_colours(page, 'rooms elsewhere')
+    page.click('#elsewhere button')
+    check('it is hidden', page.waits(lambda: page.text('#elsewhere') == ''), page.text('#elsewhere'))
+    page.open(f'{page.bare}/#{DAY}')
+    page.until('also when the page is opened anew', '#grid', 'Budget')
+    time.sleep(1)
+    check('it stays so', page.text('#elsewhere') == '', page.text('#elsewhere'))
+    write_status(elsewhere=[{**ASH, 'known': True}, BEECH], mail=True)
+    page.look()
+    page.until('until that changes', '#elsewhere', 'This page doesn’t show: Ash, <b>3rd</b> floor (ash), of east; beech.')
+    page.resize(375, 812)
+    wide = page.run('return document.documentElement.scrollWidth - window.innerWidth')
+    check('on a phone nothing scrolls sideways', wide <= 0, wide)
+    page.run('document.querySelector("#mail-field").scrollIntoView()')
+    page.picture_of('mail-phone')
+    small = page.run('return [...document.querySelectorAll("#mail, #elsewhere button")].filter(each => each.getBoundingClientRect().height < 24).length')
+    check('what is pressed is large enough for a finger', small == 0, small)
+
+
+for name in ('news.json', 'status.json'):
+    if os.path.exists(os.path.join(cache, name)):
+        os.remove(os.path.join(cache, name))
+shutil.rmtree(drop, ignore_errors=True)
+os.makedirs(drop)
+write_rooms(rooms_json, {'oak': 'Oak'}, zone='Etc/UTC')
+office = Office(program, f'{folder}/mails.db', port)
+page = Page(int(free) + 1, os.path.join(folder, 'profile-mails'), url, pictures)
+try:
+    office.serve()
+    no_field()
+    an_address()
+    no_room()
+    not_taken()
+    rooms_elsewhere()
+    seen = [line for line in page.log() if 'Failed to load resource' not in line]
+    check('nothing in the console of the browser', not seen, seen)
+except (RuntimeError, OSError) as error:
+    check('the browser', False, str(error))
+finally:
+    page.end()
+    office.stop()
