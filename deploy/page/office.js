@@ -97,10 +97,10 @@ export async function askFile(path) {
   }
 }
 
-/** Puts a mark that all desks of the office see. It may be put again. */
-export async function putMark(path) {
+/** Puts a mark, or a text, that all desks of the office see. It may be put again. */
+export async function putMark(path, text = '') {
   await askMayBook();
-  const reply = await fetched(path, '', 'PUT');
+  const reply = await fetched(path, text, 'PUT');
   if (reply.status === 401 || reply.status === 403) throw new Fault(false, 'the password was refused');
   if (reply.status !== 201 && reply.status !== 204) throw new Fault(true, 'status ' + reply.status);
 }

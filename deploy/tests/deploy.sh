@@ -13,6 +13,7 @@ deploy=$(cd -- "$(dirname -- "${BASH_SOURCE[0]}")/.." && pwd)
 . "$deploy/tests/poor_week.sh"
 . "$deploy/tests/news.sh"
 . "$deploy/tests/together.sh"
+. "$deploy/tests/many.sh"
 
 # ---- texts that go with the program
 
@@ -106,7 +107,7 @@ deploy_offices() {
     is 'a list that is not there' "$("$deploy/systemd/rooms-office" user desk west.conf <<< desk 2>&1)" \
         "rooms-office: no list is named 'west.conf'"
     sed -i "s,/var/cache/rooms,$ROOMS_CALENDARS,g; s,/var/log/nginx,$deploy_scratch," "$ROOMS_ETC"/*.nginx
-    mkdir -p "$ROOMS_CALENDARS"/{west,east}/{told,callers,elsewhere}
+    mkdir -p "$ROOMS_CALENDARS"/{west,east}/{told,groups,callers,elsewhere}
     # a machine without IP version 6
     if [ ! -e /proc/net/if_inet6 ]; then sed -i '/listen \[::\]/d' "$ROOMS_ETC"/*.nginx; fi
     west=$ROOMS_STATE/west/rooms.db
@@ -196,6 +197,27 @@ deploy_marks() {
     rm "$ROOMS_CALENDARS/west/news.json"
 }
 
+# groups of requests: files that readers read and bookers write
+deploy_groups() {
+    local group=/groups/2095-12-20.abcd1234 put=/groups/put/2095-12-20.abcd1234 text='{"title":"Jour fixe","items":[]}'
+    through 'a group that is not there' 404 readers "$group"
+    through 'a group by a reader' 401 readers "$put" -X PUT -d "$text"
+    through 'a group by another site' 403 bookers "$put" -X PUT -d "$text" -H 'Sec-Fetch-Site: cross-site'
+    through 'a group' 201 bookers "$put" -X PUT -d "$text"
+    through 'a group again' 204 bookers "$put" -X PUT -d "$text"
+    through 'a group is read' 200 readers "$group"
+    body 'as it was written' "$text"
+    through 'a group without a password' 401 '' "$group"
+    through 'a group is not removed' 403 bookers "$put" -X DELETE
+    through 'a group is not written where it is read' 403 readers "$group" -X PUT -d "$text"
+    through 'a group elsewhere' 403 bookers '/groups/put/..%2f2095-12-20.abcd1234' -X PUT -d "$text"
+    through 'a group of another name' 404 bookers /groups/put/jour-fixe -X PUT -d "$text"
+    head -c 4200000 /dev/zero > "$deploy_scratch/large"
+    through 'a group that is too large' 413 bookers "$put" -T "$deploy_scratch/large" -H 'Expect:'
+    through 'the groups' 200 readers /groups/
+    is 'their list' "$(python3 -c 'import json, sys; print([it["name"] for it in json.load(sys.stdin)])' < "$deploy_scratch/body")" "['2095-12-20.abcd1234']"
+}
+
 deploy_proxy() {
     local day=/rooms/oak/days/1995-12-18 json='{"room":"oak","day":"1995-12-18","start":"13:30","length":60,"title":"Budget Meeting"}'
     local cancel='{"id":"7-1","room":"oak"}' sheet='oak 1995-12-18 Monday
@@ -237,6 +259,7 @@ deploy_proxy() {
     through 'a body that is too large' 413 bookers /submit --data-binary "@$deploy_scratch/large" -H 'Expect:'
     through 'a path that is not served' 404 readers /calendar
     deploy_marks
+    deploy_groups
     through 'the position of an office' 200 offices /position
     is 'who called' "$(ls "$ROOMS_CALENDARS/west/callers")" offices
     held 'and in the log of all' grep -q ' offices .*"GET /position HTTP/1.1" 200 ' "$deploy_scratch/access.log"
@@ -720,5 +743,6 @@ run_deploy() {
     run_offices
     run_proxy
     run_page
+    run_many
     run_told
 }
