@@ -2,8 +2,8 @@
 // and shows every text of theirs as text. `rooms.json` names the rooms.
 //
 // texts.js has what needs no reply, office.js asks; over them stand states.js, cancel.js and box.js (any request), mine.js over follow.js
-// (this browser's own), offers.js and wish.js under form.js (what is asked for), many.js (many at once), grid.js, find.js, newslist.js over
-// news.js, and this file.
+// (this browser's own), offers.js and wish.js under form.js (what is asked for), many.js (many at once), move.js over moving.js
+// and movelist.js (changes), grid.js, find.js, newslist.js over news.js, and this file.
 // Each of the lower ones reaches the page as a whole by `page` of office.js.
 import { byId, el, dayBeside, FIRST, isDay, LAST, MIDNIGHT, put, timeOf, weekday } from './texts.js';
 import { Fault, askErrors, askOffice, askSheet, at, clock, labelOf, missed, momentOf, now, office, page, sheetOf, silence } from './office.js';
@@ -14,6 +14,7 @@ import { submit } from './form.js';
 import { showForm, startOver, typed } from './wish.js';
 import { standsForNone } from './offers.js';
 import { findBroken, startMany } from './many.js';
+import { askMoves } from './movelist.js';
 import { showMet } from './met.js';
 import { askNews, status } from './news.js';
 import { openNews, showNews } from './newslist.js';
@@ -78,6 +79,7 @@ async function round() {
       if (number !== rounds) return;
     }
     await askMine(begun);
+    await askMoves();
     if (byId('log').open) showErrors({ room: at.room, lines: await askErrors(at.room) });
   } catch (fault) {
     if (!(fault instanceof Fault)) throw fault;

@@ -61,9 +61,12 @@ export async function replaceInGroups(old, next) {
   return keepGroup(group);
 }
 
+/** What a request is known by if its file names no key: all that it asks for. */
+export const contentOf = ({ room, day, start, length, title }) => [room, day, start, length, title].join(' ');
+
 /** The requests that were asked for already, by their keys. */
 export function askedKeys() {
   const keys = new Map();
-  for (const group of groups.list) for (const item of group.items) if (item.key && item.id && item.state !== 'cancelled') keys.set(item.key, item);
+  for (const group of groups.list) for (const item of group.items) if (item.id && item.state !== 'cancelled') keys.set(item.key || contentOf(item), item);
   return keys;
 }

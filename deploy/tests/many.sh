@@ -21,5 +21,7 @@ run_many() {
     many_begin || return 0
     two_rooms many
     page_test many.py
+    two_rooms move
+    page_test move.py
     stop_nginx
 }
