@@ -48,7 +48,7 @@ poor_week 100
 offices 90
 proxy 60
 page 150
-many 120
+many 180
 told 180
 '
 # how many ports each part has for itself, of those from FIRST_PORT to 20000; from there on worlds has its own

@@ -1,7 +1,9 @@
-// Many at once: the panel in which a series is made, looked at, and asked for one by one; and where a run that was broken off is taken up.
+// Many at once: the panel in which a series is made, or a file read, looked at, and asked for one by one; and where a run that was broken off
+// is taken up.
 import { byId, el, buttonOf, isDay, put, weekday } from './texts.js';
 import { Fault, at, labelOf, office, page } from './office.js';
 import { sendCancel } from './cancel.js';
+import { fillFile, startFile } from './filepart.js';
 import { askGroups } from './groups.js';
 import { showGroups } from './grouplist.js';
 import { alone, dropRun, readRun } from './journal.js';
@@ -135,6 +137,7 @@ async function putAway() {
   const left = wantedOf(run.items).length;
   if (left && run.items.some(item => item.id) && !await sure(left + ' of the list were not asked for. Put it away all the same?', 'Put it away', 'Leave it')) return;
   dropRun();
+  byId('file-pick').value = '';
   begin('', [{ day: at.day }]);
   run.items = [];
   showPlan();
@@ -165,6 +168,7 @@ function troubleWords() {
 export function showPart(name) {
   part = name;
   byId('series').hidden = part !== 'series';
+  byId('file').hidden = part !== 'file';
   byId('groups').hidden = part !== 'groups';
   for (const button of byId('many-parts').querySelectorAll('[data-part]')) button.setAttribute('aria-pressed', button.dataset.part === part);
   if (part === 'groups') askGroups().then(showGroups, unlessFault);
@@ -180,6 +184,7 @@ export function openMany(isOpen = byId('many').hidden) {
   byId('many-open').setAttribute('aria-expanded', isOpen);
   if (!isOpen) return byId('many-open').focus();
   if (!run.items.length) fillSeries();
+  fillFile();
   showPart(part);
   byId('many-title').focus();
 }
@@ -204,5 +209,6 @@ export function startMany() {
   byId('many-parts').addEventListener('click', event => { if (event.target.dataset.part) showPart(event.target.dataset.part); });
   byId('series').addEventListener('submit', lookAtSeries);
   byId('series-from').addEventListener('change', tickDay);
+  startFile((title, items) => run.isGoing || isLooking ? undefined : lookAtPlan(title, items));
   window.addEventListener('beforeunload', event => { if (run.isGoing) event.preventDefault(); });
 }

@@ -38,7 +38,8 @@ export function itemOf(wish) {
   const item = { ...wish, id: '', words: wish.trouble || '' };
   item.words = item.words || faultOf(item);
   item.state = item.words ? 'bad' : 'unread';
-  item.isWanted = !item.words;
+  if (!item.words && item.day < now().day) item.state = 'past';
+  item.isWanted = item.state === 'unread';
   return item;
 }
 
@@ -56,7 +57,8 @@ function judge(item, rows, before) {
 /** Reads the sheets of a plan, a few words after each, and says of each item what stands in its way. False where it was stopped. */
 export async function look(items, progress, isStopped) {
   const sheets = new Map();
-  for (const item of items.filter(each => each.state === 'unread' || (mayAsk(each) && !each.id))) {
+  for (const item of items.filter(mayAsk)) {
+    if (item.state === 'past' && !item.isWanted) continue;
     const name = item.room + ' ' + item.day;
     sheets.set(name, [...sheets.get(name) || [], item]);
   }
@@ -75,7 +77,7 @@ async function lookAt(own) {
     const { rows } = await askSheet(room, day);
     for (const item of own) {
       Object.assign(item, rows ? judge(item, rows, before) : { state: 'bad', words: 'this office does not know the room ' + labelOf(room) });
-      item.isWanted = item.state === 'free';
+      item.isWanted = item.state === 'free' || (item.state === 'past' && item.isWanted);
       const { from, to } = spanOf(item);
       before.push({ start: from, stop: to, title: item.title + ' of this list' });
     }

@@ -37,7 +37,7 @@ const whenOf = item => weekday(item.day, 'short') + ' ' + item.day + ' ' + hours
 
 function rowOf(item, act, isGoing) {
   const isBad = item.state === 'bad', words = [item.line ? 'Line ' + item.line + ': ' : '', isBad ? item.title : whenOf(item) + ', ' + labelOf(item.room) + ', ' + item.title].join('');
-  const reason = item.words ? el('span', { className: 'hint' }, ' ' + item.words + '.') : null;
+  const said = [item.words, item.note].filter(each => each).join('; '), reason = said ? el('span', { className: 'hint' }, ' ' + said + '.') : null;
   if (!mayAsk(item) || isGoing) return el('li', {}, words, reason, offersOf(item, act, isGoing));
   const box = el('input', { type: 'checkbox', defaultChecked: item.isWanted, checked: item.isWanted });
   box.dataset.key = 'tick ' + item.room + item.day + item.start;

@@ -23,5 +23,7 @@ run_many() {
     page_test many.py
     two_rooms move
     page_test move.py
+    two_rooms imports
+    page_test imports.py
     stop_nginx
 }
