@@ -31,6 +31,12 @@ deploy_texts() {
     for word in $(grep -ohE 'ROOMS_(HINTS|WAIT|BINARY)' "$deploy"/front/* | sort -u); do
         held "the man page has $word" grep -qxF ".B $word" "$deploy/package/rooms.1"
     done
+    for word in $(sed -n 's/^#     \(-[a-z]\) .*/\1/p' "$deploy/import/rooms-import"); do
+        held "the man page of rooms-import has $word" grep -qE "^\.BI? \\\\${word}( |\$)" "$deploy/package/rooms-import.1"
+    done
+    for word in "$deploy"/import/*; do
+        is "the import has no fault: ${word##*/}" "$(perl -Mstrict -wc "$word" 2>&1)" "$word syntax OK"
+    done
     is 'a word of help is completed' "$(. "$deploy/package/rooms.bash-completion"
         COMP_WORDS=(rooms help bo) COMP_CWORD=2
         _rooms
@@ -592,13 +598,14 @@ deploy_package() {
     is 'the front by a link' "$("$folder/link" position "$folder/a.db" 2>&1 | head -n 1)" 'mp2 1 1'
     is 'the front of the package has the version' "$("$folder/tree/usr/bin/rooms" --version 2>&1)" "rooms $(dpkg-deb -f "$file" Version)"
     is 'the front of the package helps' "$("$folder/tree/usr/bin/rooms" help 2>&1 | wc -l)" "$("$deploy/front/rooms" help 2>&1 | wc -l)"
+    is 'rooms-import of the package helps' "$("$folder/tree/usr/bin/rooms-import" --help 2>&1 | grep -c 'a dry run')" 1
     is 'the documents for the operator' "$(cd "$folder/tree/usr/share/doc/rooms" && ls docs | tr '\n' ' ')" 'FORMATS.md OPERATING.md TROUBLE.md '
     is 'it needs the C library alone' "$(dpkg-deb -f "$file" Depends | sed 's/ ([^)]*)//g')" 'libc6, passwd'
     if ! missing 'lintian of the package' lintian; then
         held 'lintian finds no error and no warning' lintian --allow-root --fail-on error,warning "$file"
     fi
     if ! missing 'the man pages' man; then
-        is 'the man pages have no fault' "$(for file in "$deploy"/package/rooms.1 "$deploy"/package/rooms-office.8; do
+        is 'the man pages have no fault' "$(for file in "$deploy"/package/rooms.1 "$deploy"/package/rooms-import.1 "$deploy"/package/rooms-office.8; do
             LC_ALL=C.UTF-8 MANWIDTH=100 man --warnings -E UTF-8 -l -Tutf8 -Z "$file" 2>&1 > /dev/null
         done)" ''
     fi

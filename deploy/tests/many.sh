@@ -1,4 +1,4 @@
-# The page with many requests at once, in a browser. Read by deploy.sh, whose functions are used here.
+# The page with many requests at once, in a browser, and rooms-import. Read by deploy.sh, whose functions are used here.
 
 # many_begin: an office `west` whose page everybody may read, behind nginx; status 1 where something is missing
 many_begin() {
@@ -25,5 +25,7 @@ run_many() {
     page_test move.py
     two_rooms imports
     page_test imports.py
+    two_rooms tool
+    page_test import_tool.py
     stop_nginx
 }
