@@ -53,6 +53,7 @@ doors 60
 anyroom 45
 report 40
 looking 40
+many 180
 told 180
 '
 # how many ports each part has for itself, of those from FIRST_PORT to 20000; from there on worlds has its own

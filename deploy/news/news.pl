@@ -138,6 +138,12 @@ sub remove_marks {
     for my $mark (readdir $told) { unlink "$folder/told/$mark" unless $mark =~ /^\.\.?$/ or $is_listed{$mark} }
 }
 
+# Takes groups of requests away whose last day is as long ago: it is the beginning of a group's name.
+sub remove_groups {
+    opendir my $groups, "$folder/groups" or return;
+    for my $group (readdir $groups) { unlink "$folder/groups/$group" if $group =~ /^(\d{4}-\d\d-\d\d)\./ and $1 lt moment($now - 86400 * $days) }
+}
+
 sub report {
     my %words = (lost => 'lost the room', moved => 'moved', found => 'found a room', cancelled => 'cancelled', none => 'without a room', final => 'final');
     my %count;
@@ -160,3 +166,4 @@ write_news($next) if $is_changed;
 report(@found);
 hand_over($next);
 remove_marks($next);
+remove_groups();

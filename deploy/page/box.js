@@ -2,6 +2,7 @@
 import { byId, el, buttonOf, hoursText, minuteOf, timeOf, weekday } from './texts.js';
 import { askOutcome, clock, labelOf, sinceOf, stateKey } from './office.js';
 import { cancelButton, disarm, troubleOf } from './cancel.js';
+import { openMove } from './move.js';
 import { chipOf, stateOf } from './states.js';
 
 /** The booking whose box is open: its room, title, where it stood, and what the office said of it last. */
@@ -35,8 +36,16 @@ export function showBox() {
     el('p', {}, chipOf(word, kind), ' ' + words), el('p', { className: 'hint' }, 'Request ' + box.id + '. ' + since),
     el('p', { className: 'error', role: 'alert' }, outcome ? troubleOf(box) : ''),
     el('p', { className: 'buttons' }, isBooked ? cancelButton(box, 'Cancel this booking', (text, act) => boxButton(text, 'cancel', act)) : null,
+      isBooked ? boxButton('Change', 'move', () => change(outcome)) : null,
       boxButton('Close', 'close', () => byId('box').close(), { autofocus: true })));
   if (held) (byId('box').querySelector('[data-box=' + held + ']:not(:disabled)') || byId('box').querySelector('[data-box=close]')).focus();
+}
+
+/** The box gives way to the form in which its booking is moved, lengthened or renamed. */
+function change({ id, day, start, stop }) {
+  const { room, title } = box;
+  byId('box').close();
+  openMove({ room, id, title, day, start, length: minuteOf(stop) - minuteOf(start) });
 }
 
 function boxButton(words, name, act, properties) {

@@ -2,8 +2,9 @@
 // and shows every text of theirs as text. `rooms.json` names the rooms.
 //
 // texts.js has what needs no reply, office.js asks; over them stand states.js, cancel.js and box.js (any request), mine.js over follow.js
-// (this browser's own), offers.js, mail.js and wish.js under form.js (what is asked for), anyroom.js over find.js and needs.js,
-// grid.js, month.js, coming.js and search.js (looking), newslist.js over news.js, and this file.
+// (this browser's own), offers.js, mail.js and wish.js under form.js (what is asked for), many.js (many at once), move.js over moving.js
+// and movelist.js (changes), anyroom.js over find.js and needs.js, grid.js, month.js, coming.js and search.js (looking),
+// newslist.js over news.js, and this file.
 // Each of the lower ones reaches the page as a whole by `page` of office.js.
 import { byId, el, dayBeside, FIRST, isDay, LAST, MIDNIGHT, put, timeOf, weekday } from './texts.js';
 import { Fault, askErrors, askOffice, askSheet, at, clock, labelOf, missed, momentOf, now, office, page, sheetOf, silence } from './office.js';
@@ -13,6 +14,8 @@ import { report, reportNoMore } from './states.js';
 import { submit } from './form.js';
 import { showForm, startOver, typed } from './wish.js';
 import { standsForNone } from './offers.js';
+import { findBroken, startMany } from './many.js';
+import { askMoves } from './movelist.js';
 import { showMet } from './met.js';
 import { showElsewhere } from './elsewhere.js';
 import { showMailField } from './mail.js';
@@ -89,6 +92,7 @@ async function round() {
       if (day !== at.day) show();
     }
     await askMine(begun);
+    await askMoves();
     if (byId('log').open) showErrors({ room: at.room, lines: await askErrors(at.room) });
   } catch (fault) {
     if (!(fault instanceof Fault)) throw fault;
@@ -113,6 +117,7 @@ async function loadOffice() {
   byId('find-from').value = timeOf(office.from);
   byId('find-to').value = timeOf(Math.min(office.to, MIDNIGHT - 1));
   readAddress();
+  findBroken();
 }
 
 // ---- showing
@@ -165,6 +170,7 @@ function start() {
   Object.assign(page, { show, showLists() { showMine(); showNews(); showErrors(); }, round, goTo });
   dropOldSheets();
   readMine();
+  startMany();
   byId('before').addEventListener('click', () => step(-1));
   byId('after').addEventListener('click', () => step(1));
   byId('today').addEventListener('click', () => goTo({ day: now().day }));

@@ -10,7 +10,7 @@ import { report, stateOf } from './states.js';
 import { choices, clashWords, isWished, lengthOf, LONGEST, sameSlot, slots, slotText, startOver, takeOffer } from './wish.js';
 
 const LENGTH = 'A length is a whole number of minutes from 1 to 1440, and at each choice the meeting ends at midnight at the latest.';
-const REFUSALS = {
+export const REFUSALS = {
   1: ['day', 'That is no day from 1990 to 2099.'],
   2: ['start', 'A start is a time from 00:00 to 23:59.'],
   3: ['length', LENGTH],

@@ -4,6 +4,7 @@ import { labelOf, now, page } from './office.js';
 import { askBox, showBox } from './box.js';
 import { cancelButton, troubleOf } from './cancel.js';
 import { follow } from './follow.js';
+import { openMove } from './move.js';
 import { sure } from './question.js';
 import { chipOf, stateOf } from './states.js';
 
@@ -56,6 +57,13 @@ export function dropMine(...entries) {
   keepMine();
 }
 
+/** A request took the place of another one, which leaves the list. */
+export function adoptMine(old, { room, title, day, start, length }, outcome) {
+  mine = mine.filter(each => each.room !== old.room || !each.now || each.now.id !== old.id);
+  mine.unshift({ room, title, wish: { day, start }, length, sent: new Date().toISOString() + Math.random(), first: outcome, now: { ...outcome } });
+  keepMine();
+}
+
 /** The entry of this browser's own for a request, if it has one. */
 export const mineOf = (room, id) => mine.find(entry => entry.room === room && entry.now && entry.now.id === id) || null;
 
@@ -97,13 +105,20 @@ function undoOf(entry) {
   return cancelButton(entry, isWaiting ? 'Withdraw' : 'Cancel', (words, act) => keyedButton(entry, words, 'cancel', act));
 }
 
+/** Its booking, as something that can be moved. */
+function moveOf(entry) {
+  if (!isBooked(entry)) return null;
+  const { id, day, start } = entry.now;
+  return keyedButton(entry, 'Change', 'move', () => openMove({ room: entry.room, id, title: entry.title, day, start, length: entry.length }));
+}
+
 function itemOf(entry) {
   const [word, kind, words] = stateOfMine(entry), moved = movedText(entry), outcome = entry.now, trouble = outcome && troubleOf(entry);
   return el('li', {}, chipOf(word, kind), ' ', el('b', {}, entry.title), ' ',
     el('span', {}, labelOf(entry.room) + ', asked for ' + slotText(entry.wish) + (outcome ? ', request ' + outcome.id : '') + '. ' + words),
     moved ? el('span', { className: 'moved' }, moved) : null, trouble ? el('span', { className: 'error' }, trouble) : null,
     el('span', { className: 'buttons' },
-      keyedButton(entry, 'Show the day', 'show', () => page.goTo({ day: dayOf(entry), room: entry.room })), undoOf(entry),
+      keyedButton(entry, 'Show the day', 'show', () => page.goTo({ day: dayOf(entry), room: entry.room })), undoOf(entry), moveOf(entry),
       keyedButton(entry, 'Take off this list', 'off', () => takeOff(entry))));
 }
 

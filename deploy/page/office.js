@@ -97,11 +97,8 @@ export async function askFile(path) {
   }
 }
 
-/** Puts a mark that all desks of the office see. It may be put again. */
-export const putMark = path => putText(path, '');
-
-/** Puts a text where the office's service finds it, or a mark. */
-export async function putText(path, text) {
+/** Puts a mark, or a text, that all desks of the office see or its service finds. It may be put again. */
+export async function putMark(path, text = '') {
   await askMayBook();
   await putFile(path, text);
 }

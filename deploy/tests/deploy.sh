@@ -15,6 +15,7 @@ deploy=$(cd -- "$(dirname -- "${BASH_SOURCE[0]}")/.." && pwd)
 . "$deploy/tests/together.sh"
 . "$deploy/tests/looked.sh"
 . "$deploy/tests/mail.sh"
+. "$deploy/tests/many.sh"
 
 # ---- texts that go with the program
 
@@ -31,6 +32,12 @@ deploy_texts() {
     done
     for word in $(grep -ohE 'ROOMS_(HINTS|WAIT|BINARY)' "$deploy"/front/* | sort -u); do
         held "the man page has $word" grep -qxF ".B $word" "$deploy/package/rooms.1"
+    done
+    for word in $(sed -n 's/^#     \(-[a-z]\) .*/\1/p' "$deploy/import/rooms-import"); do
+        held "the man page of rooms-import has $word" grep -qE "^\.BI? \\\\${word}( |\$)" "$deploy/package/rooms-import.1"
+    done
+    for word in "$deploy"/import/*; do
+        is "the import has no fault: ${word##*/}" "$(perl -Mstrict -wc "$word" 2>&1)" "$word syntax OK"
     done
     is 'a word of help is completed' "$(. "$deploy/package/rooms.bash-completion"
         COMP_WORDS=(rooms help bo) COMP_CWORD=2
@@ -108,7 +115,7 @@ deploy_offices() {
     is 'a list that is not there' "$("$deploy/systemd/rooms-office" user desk west.conf <<< desk 2>&1)" \
         "rooms-office: no list is named 'west.conf'"
     sed -i "s,/var/cache/rooms,$ROOMS_CALENDARS,g; s,/var/log/nginx,$deploy_scratch," "$ROOMS_ETC"/*.nginx
-    mkdir -p "$ROOMS_CALENDARS"/{west,east}/{told,callers,elsewhere,here,mail}
+    mkdir -p "$ROOMS_CALENDARS"/{west,east}/{told,groups,callers,elsewhere,here,mail}
     # a machine without IP version 6
     if [ ! -e /proc/net/if_inet6 ]; then sed -i '/listen \[::\]/d' "$ROOMS_ETC"/*.nginx; fi
     west=$ROOMS_STATE/west/rooms.db
@@ -222,6 +229,27 @@ deploy_addresses() {
     rm "$ROOMS_CALENDARS/west/mail/1-17"
 }
 
+# groups of requests: files that readers read and bookers write
+deploy_groups() {
+    local group=/groups/2095-12-20.abcd1234 put=/groups/put/2095-12-20.abcd1234 text='{"title":"Jour fixe","items":[]}'
+    through 'a group that is not there' 404 readers "$group"
+    through 'a group by a reader' 401 readers "$put" -X PUT -d "$text"
+    through 'a group by another site' 403 bookers "$put" -X PUT -d "$text" -H 'Sec-Fetch-Site: cross-site'
+    through 'a group' 201 bookers "$put" -X PUT -d "$text"
+    through 'a group again' 204 bookers "$put" -X PUT -d "$text"
+    through 'a group is read' 200 readers "$group"
+    body 'as it was written' "$text"
+    through 'a group without a password' 401 '' "$group"
+    through 'a group is not removed' 403 bookers "$put" -X DELETE
+    through 'a group is not written where it is read' 403 readers "$group" -X PUT -d "$text"
+    through 'a group elsewhere' 403 bookers '/groups/put/..%2f2095-12-20.abcd1234' -X PUT -d "$text"
+    through 'a group of another name' 404 bookers /groups/put/jour-fixe -X PUT -d "$text"
+    head -c 4200000 /dev/zero > "$deploy_scratch/large"
+    through 'a group that is too large' 413 bookers "$put" -T "$deploy_scratch/large" -H 'Expect:'
+    through 'the groups' 200 readers /groups/
+    is 'their list' "$(python3 -c 'import json, sys; print([it["name"] for it in json.load(sys.stdin)])' < "$deploy_scratch/body")" "['2095-12-20.abcd1234']"
+}
+
 deploy_proxy() {
     local day=/rooms/oak/days/1995-12-18 json='{"room":"oak","day":"1995-12-18","start":"13:30","length":60,"title":"Budget Meeting"}'
     local cancel='{"id":"7-1","room":"oak"}' sheet='oak 1995-12-18 Monday
@@ -264,6 +292,7 @@ deploy_proxy() {
     through 'a path that is not served' 404 readers /calendar
     deploy_marks
     deploy_addresses
+    deploy_groups
     through 'the position of an office' 200 offices /position
     is 'who called' "$(ls "$ROOMS_CALENDARS/west/callers")" offices
     held 'and in the log of all' grep -q ' offices .*"GET /position HTTP/1.1" 200 ' "$deploy_scratch/access.log"
@@ -663,13 +692,14 @@ deploy_package() {
     is 'the front by a link' "$("$folder/link" position "$folder/a.db" 2>&1 | head -n 1)" 'mp2 1 1'
     is 'the front of the package has the version' "$("$folder/tree/usr/bin/rooms" --version 2>&1)" "rooms $(dpkg-deb -f "$file" Version)"
     is 'the front of the package helps' "$("$folder/tree/usr/bin/rooms" help 2>&1 | wc -l)" "$("$deploy/front/rooms" help 2>&1 | wc -l)"
+    is 'rooms-import of the package helps' "$("$folder/tree/usr/bin/rooms-import" --help 2>&1 | grep -c 'a dry run')" 1
     is 'the documents for the operator' "$(cd "$folder/tree/usr/share/doc/rooms" && ls docs | tr '\n' ' ')" 'FORMATS.md OPERATING.md TROUBLE.md '
     is 'it needs the C library alone' "$(dpkg-deb -f "$file" Depends | sed 's/ ([^)]*)//g')" 'libc6, passwd'
     if ! missing 'lintian of the package' lintian; then
         held 'lintian finds no error and no warning' lintian --allow-root --fail-on error,warning "$file"
     fi
     if ! missing 'the man pages' man; then
-        is 'the man pages have no fault' "$(for file in "$deploy"/package/rooms.1 "$deploy"/package/rooms-office.8; do
+        is 'the man pages have no fault' "$(for file in "$deploy"/package/rooms.1 "$deploy"/package/rooms-import.1 "$deploy"/package/rooms-office.8; do
             LC_ALL=C.UTF-8 MANWIDTH=100 man --warnings -E UTF-8 -l -Tutf8 -Z "$file" 2>&1 > /dev/null
         done)" ''
     fi
@@ -823,5 +853,6 @@ run_deploy() {
     run_anyroom
     run_report
     run_looking
+    run_many
     run_told
 }

@@ -52,7 +52,9 @@ final 2-2 oak Stays - - 2-5 C"
     is 'keys' "$(grep -oE '"key":"[^"]*"' "$ROOMS_CALENDARS/north/news.json" | sort -u | grep -cE '"2-[1-4]\.[0-9]{10}"')" 10
     key=$(sed -n 's/.*"key":"\(2-3\.[0-9]*\)".*"moved".*/\1/p' "$ROOMS_CALENDARS/north/news.json")
     touch "$ROOMS_CALENDARS/north/told/$key" "$ROOMS_CALENDARS/north/told/2-3.1764536710"
+    touch "$ROOMS_CALENDARS/north/groups/2020-06-30.abcdefgh" "$ROOMS_CALENDARS/north/groups/2095-06-30.abcdefgh"
     round
+    is 'groups stay until long after their last day' "$(ls "$ROOMS_CALENDARS/north/groups")" 2095-06-30.abcdefgh
     is 'marks of what is listed stay' "$(ls "$ROOMS_CALENDARS/north/told")" "$key"
     is 'the check counts them' "$("$deploy/check/rooms-check" north | tr ';' '\n' | grep news)" ' news: 1 lost the room, 1 moved, 1 of these not marked as told'
     sed -i "s/^\(item\t1\t\)[0-9]*\(\t2-[13]\..*\)/\1$(($(date +%s) - 86400 * 31))\2/" "$ROOMS_STATE/north/news"
@@ -178,7 +180,7 @@ deploy_news() {
     ROOMS_PROGRAM=$(readlink -f -- "$program")
     export ROOMS_ETC ROOMS_STATE ROOMS_SHARE ROOMS_USER ROOMS_PROGRAM
     local -x LC_ALL=C ROOMS_CALENDAR=$deploy/calendar/rooms-calendar ROOMS_CALENDARS=$folder/calendars north=$folder/state/north/rooms.db
-    mkdir -p "$ROOMS_SHARE" "$ROOMS_ETC" "$ROOMS_STATE/north" "$ROOMS_CALENDARS"/north/{told,callers}
+    mkdir -p "$ROOMS_SHARE" "$ROOMS_ETC" "$ROOMS_STATE/north" "$ROOMS_CALENDARS"/north/{told,groups,callers}
     cp -r "$deploy/page" "$deploy/front" "$deploy/news" "$deploy/proxy/office.conf.in" "$deploy/systemd/office.settings.in" "$deploy/systemd/page_rooms.pl" "$ROOMS_SHARE"
     printf 'SERVER=2\nPRIMARY=1\nPORT=1\n' > "$ROOMS_ETC/north.conf"
     "$program" init "$north" 2 1 > /dev/null

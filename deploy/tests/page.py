@@ -6,6 +6,7 @@ import os
 import subprocess
 import threading
 import time
+import urllib.request
 
 from webdriver import Browser
 
@@ -81,6 +82,18 @@ class Page(Browser):
             self.set(field, value)
         self.write('#title', title)
 
+    def leave(self, address):
+        """Goes to another address, whatever the page asks about that."""
+        self.devtools('Page.navigate', url=address)
+        for _ in range(50):
+            try:
+                self.call('POST', '/alert/accept', {})
+            except RuntimeError:
+                pass
+            time.sleep(0.1)
+            if self.call('GET', '/url').startswith(address):
+                return
+
     def look(self):
         """A round of asking at once, as when the window is shown again."""
         self.run('document.dispatchEvent(new Event("visibilitychange"))')
@@ -98,6 +111,11 @@ class Office:
 
     def rooms(self, command, *words):
         return subprocess.run([self.program, command, self.database, *words], stdout=subprocess.PIPE, stdin=subprocess.DEVNULL, text=True).stdout
+
+    def asked(self, path):
+        """What it answers to this path while it is served."""
+        with urllib.request.urlopen(f'http://127.0.0.1:{self.port}{path}', timeout=60) as reply:
+            return reply.read().decode()
 
     def serve(self):
         self.process = subprocess.Popen([self.program, 'serve', self.database, str(self.port), '100000'],

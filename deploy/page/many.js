@@ -1,0 +1,214 @@
+// Many at once: the panel in which a series is made, or a file read, looked at, and asked for one by one; and where a run that was broken off
+// is taken up.
+import { byId, el, buttonOf, isDay, put, weekday } from './texts.js';
+import { Fault, at, labelOf, office, page } from './office.js';
+import { sendCancel } from './cancel.js';
+import { fillFile, startFile } from './filepart.js';
+import { askGroups } from './groups.js';
+import { showGroups } from './grouplist.js';
+import { alone, dropRun, readRun } from './journal.js';
+import { itemOf, look, STATES } from './plan.js';
+import { forgetPlan, showItems } from './planlist.js';
+import { sure } from './question.js';
+import { askAll, begin, keep, lookAgain, run, takeUp, wantedOf } from './run.js';
+import { daysOfList, daysOfSeries, numberOf } from './series.js';
+
+const REST = 300;
+let part = 'series', isLooking = false, isStopped = false, looked = [0, 0], drawn = 0;
+
+// ---- the series
+
+/** What stands in the request form is where the series begins. */
+function fillSeries() {
+  byId('series-room').replaceChildren(...office.rooms.map(room => el('option', { value: room.name }, labelOf(room.name))));
+  byId('series-room').value = byId('room').value || at.room;
+  byId('series-start').value = byId('wish-start').value;
+  byId('series-length').value = byId('length').value;
+  byId('series-title').value = byId('title').value;
+  byId('series-from').value = byId('wish-day').value || at.day;
+  tickDay();
+}
+
+const ticks = () => [...byId('series-weekdays').querySelectorAll('input')];
+
+/** The weekday of the first day is ticked, unless others were. */
+function tickDay() {
+  const from = byId('series-from').value;
+  if (isDay(from) && !ticks().some(box => box.dataset.byHand)) for (const box of ticks()) box.checked = Number(box.value) === numberOf(from);
+}
+
+function makeTicks() {
+  byId('series-weekdays').append(...[1, 2, 3, 4, 5, 6, 7].map(number => {
+    const box = el('input', { type: 'checkbox', value: number });
+    box.addEventListener('change', () => { box.dataset.byHand = 'yes'; });
+    return el('label', { className: 'tick' }, box, weekday('2026-06-0' + number, 'short'));
+  }));
+}
+
+/** The items of the series as it is filled in, or what is wrong. */
+function readSeries() {
+  const value = id => byId(id).value.trim(), length = value('series-length');
+  if (!value('series-start')) return { trouble: 'A series has a start.' };
+  if (!/^[0-9]{1,4}$/.test(length) || Number(length) < 1 || Number(length) > 1440) return { trouble: 'A length is a number of minutes from 1 to 1440.' };
+  if (!value('series-title')) return { trouble: 'A series has a title.' };
+  const list = value('series-list'), { days, trouble } = list ? daysOfList(list) : daysOfSeries({ from: value('series-from'), until: value('series-until'),
+    weekdays: ticks().filter(box => box.checked).map(box => Number(box.value)), every: value('series-every') });
+  if (trouble) return { trouble };
+  const wish = { room: value('series-room'), start: value('series-start'), length: Number(length), title: byId('series-title').value };
+  const isLate = Number(wish.start.slice(0, 2)) * 60 + Number(wish.start.slice(3)) + wish.length > 1440;
+  return isLate ? { trouble: 'A meeting ends at midnight at the latest.' } : { items: days.map(day => itemOf({ ...wish, day, key: '' })) };
+}
+
+function lookAtSeries(event) {
+  event.preventDefault();
+  if (run.isGoing || isLooking) return;
+  const { items, trouble } = readSeries();
+  put({ 'series-error': trouble || '' });
+  if (items) lookAtPlan(byId('series-title').value.trim(), items);
+}
+
+// ---- the plan
+
+/** Begins a plan: reads the sheets of its days, and shows what stands in its way. */
+export async function lookAtPlan(title, items) {
+  forgetPlan();
+  begin(title, items);
+  await lookAgainAtAll();
+}
+
+async function lookAgainAtAll() {
+  Object.assign(run, { trouble: '', show: showPlan });
+  isLooking = true;
+  isStopped = false;
+  looked = [0, 0];
+  showPlan();
+  await look(run.items, (...counts) => { looked = counts; showPlan(); }, () => isStopped);
+  isLooking = false;
+  showPlan();
+  byId('plan-words').scrollIntoView({ block: 'center' });
+}
+
+async function go() {
+  run.isGoing = true;
+  showPlan();
+  byId('plan-words').scrollIntoView({ block: 'center' });
+  if (await alone(async () => { await askAll(); return true; })) return page.round();
+  run.isGoing = false;
+  run.trouble = 'Another window of this browser is at work on such a list';
+  showPlan();
+}
+
+/** A free slot instead: before it was asked for, the item takes it; afterwards it is asked for, and the request without a room is withdrawn. */
+async function takeSlot(item, slot) {
+  if (item.state === 'clash') {
+    Object.assign(item, slot, { state: 'free', words: '', isWanted: true });
+    return showPlan();
+  }
+  const first = { room: item.room, title: item.title, now: { id: item.id, state: 'logged', mark: item.mark || 'T' }, withdrawn: '' };
+  const next = { ...item, ...slot, id: '', state: 'free', words: '', isWanted: true };
+  run.items.splice(run.items.indexOf(item), 1, next);
+  for (const each of run.items) if (each !== next) each.isWanted = false;
+  await go();
+  if (next.state !== 'booked' || first.now.mark !== 'T') return;
+  const words = await sendCancel(first);
+  if (!words) run.trouble = 'The request before, ' + first.now.id + ', is not withdrawn, and may still be booked too';
+  next.words = words ? 'Instead of request ' + first.now.id + ', which is withdrawn' : '';
+  showPlan();
+}
+
+function wordsOfPlan() {
+  const count = state => run.items.filter(item => item.state === state).length;
+  const parts = Object.keys(STATES).filter(count).map(state => count(state) + ' ' + STATES[state][0].replace(/^./, letter => letter.toLowerCase()));
+  if (isLooking) return 'Looking at the sheets: ' + looked[0] + ' of ' + looked[1] + '.';
+  if (run.isGoing) return 'Asking: ' + run.done + ' of ' + run.of + '.';
+  return run.items.length + ' in the list: ' + parts.join('; ') + '.';
+}
+
+function buttonsOfPlan() {
+  const wanted = wantedOf(run.items).length, unsure = run.items.filter(item => item.state === 'perhaps'), key = (name, button) => { button.dataset.key = name; return button; };
+  if (run.isGoing || isLooking) return [key('stop', buttonOf('Stop', () => { run.isStopped = isStopped = true; }))];
+  return [wanted ? key('ask', buttonOf('Ask for ' + wanted, go, { className: 'main' })) : null,
+    unsure.length ? key('unsure', buttonOf('Look whether it is there', async () => { for (const item of unsure) await lookAgain(item); run.trouble = ''; await keep(); showPlan(); })) : null,
+    run.keepTrouble ? key('keep', buttonOf('Keep the group again', async () => { await keep(); if (!run.keepTrouble) dropRun(); showPlan(); })) : null,
+    wanted ? key('again', buttonOf('Look again', lookAgainAtAll)) : null, key('away', buttonOf('Put the list away', putAway))].filter(button => button);
+}
+
+async function putAway() {
+  const left = wantedOf(run.items).length;
+  if (left && run.items.some(item => item.id) && !await sure(left + ' of the list were not asked for. Put it away all the same?', 'Put it away', 'Leave it')) return;
+  dropRun();
+  byId('file-pick').value = '';
+  begin('', [{ day: at.day }]);
+  run.items = [];
+  showPlan();
+}
+
+/** While it goes on, the list is drawn a few times a second. */
+function showPlan() {
+  const isBusy = run.isGoing || isLooking, bar = byId('plan-progress'), [done, of] = isLooking ? looked : [run.done, run.of];
+  byId('plan').hidden = !run.items.length || part === 'groups';
+  put({ 'plan-words': isBusy && done % 10 && done !== of ? byId('plan-words').textContent : wordsOfPlan(), 'plan-trouble': troubleWords() });
+  bar.hidden = !isBusy;
+  Object.assign(bar, { max: of || 1, value: done });
+  if (isBusy && Date.now() - drawn < REST) return;
+  drawn = Date.now();
+  const held = document.activeElement && document.activeElement.dataset.key;
+  byId('plan-buttons').replaceChildren(...buttonsOfPlan());
+  showItems(run.items, { show: showPlan, take: takeSlot }, isBusy);
+  if (held && document.activeElement === document.body) (byId('plan').querySelector('[data-key="' + CSS.escape(held) + '"]') || byId('many-title')).focus();
+}
+
+function troubleWords() {
+  const words = [run.trouble, run.keepTrouble && 'The group is not kept at the office (' + run.keepTrouble + '), and can’t be cancelled as one yet'];
+  return words.filter(each => each).map(each => each + '.').join(' ');
+}
+
+// ---- the panel
+
+export function showPart(name) {
+  part = name;
+  byId('series').hidden = part !== 'series';
+  byId('file').hidden = part !== 'file';
+  byId('groups').hidden = part !== 'groups';
+  for (const button of byId('many-parts').querySelectorAll('[data-part]')) button.setAttribute('aria-pressed', button.dataset.part === part);
+  if (part === 'groups') askGroups().then(showGroups, unlessFault);
+  showPlan();
+}
+
+function unlessFault(fault) {
+  if (!(fault instanceof Fault)) throw fault;
+}
+
+export function openMany(isOpen = byId('many').hidden) {
+  byId('many').hidden = !isOpen;
+  byId('many-open').setAttribute('aria-expanded', isOpen);
+  if (!isOpen) return byId('many-open').focus();
+  if (!run.items.length) fillSeries();
+  fillFile();
+  showPart(part);
+  byId('many-title').focus();
+}
+
+/** A run that was broken off, and that no other window of this browser goes on with. */
+export async function findBroken() {
+  const broken = readRun();
+  if (!broken || !await alone(() => true)) return;
+  openMany(true);
+  run.show = showPlan;
+  await takeUp(broken);
+  const left = wantedOf(run.items).length;
+  run.trouble = 'This list was broken off: ' + (left ? left + ' were not asked for' : 'all were asked for') + (run.trouble ? '. ' + run.trouble : '');
+  if (!left && !run.keepTrouble) dropRun();
+  showPlan();
+}
+
+export function startMany() {
+  makeTicks();
+  byId('many-open').addEventListener('click', () => openMany());
+  byId('many-close').addEventListener('click', () => openMany(false));
+  byId('many-parts').addEventListener('click', event => { if (event.target.dataset.part) showPart(event.target.dataset.part); });
+  byId('series').addEventListener('submit', lookAtSeries);
+  byId('series-from').addEventListener('change', tickDay);
+  startFile((title, items) => run.isGoing || isLooking ? undefined : lookAtPlan(title, items));
+  window.addEventListener('beforeunload', event => { if (run.isGoing) event.preventDefault(); });
+}

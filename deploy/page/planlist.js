@@ -1,0 +1,75 @@
+// The list of a plan: what is free, what is taken and by what, what came of each request; by state, the long parts folded.
+import { el, buttonOf, minuteOf, nearestOf, hoursText, renew, byId, timeOf, weekday } from './texts.js';
+import { Fault, askSheet, labelOf, office } from './office.js';
+import { hoursOfItem, mayAsk, STATES } from './plan.js';
+import { chipOf } from './states.js';
+
+const MOST_OPEN = 40, MOST_SHOWN = 100, MOST_OFFERS = 3;
+const folded = new Map();   // states that were opened or shut by hand
+const shown = new Map();    // how many of a state are shown
+const offers = new Map();   // by item: what is free on its day
+
+export function forgetPlan() {
+  for (const each of [folded, shown, offers]) each.clear();
+}
+
+/** Shows the items; `act` has what is done when a box is ticked and an offer is taken. */
+export function showItems(items, act, isGoing) {
+  const parts = Object.keys(STATES).map(state => [state, items.filter(item => item.state === state)]).filter(([, own]) => own.length);
+  renew(byId('plan-items'), ...parts.map(([state, own]) => partOf(state, own, act, isGoing)));
+}
+
+function partOf(state, own, act, isGoing) {
+  const isOpen = folded.get(state) ?? own.length <= MOST_OPEN, count = shown.get(state) || MOST_SHOWN, [words, kind] = STATES[state];
+  const summary = el('summary', {}, chipOf(words, kind), ' ' + own.length);
+  summary.dataset.key = 'part ' + state;
+  summary.addEventListener('click', event => { event.preventDefault(); folded.set(state, !isOpen); act.show(); });
+  const details = el('details', { open: isOpen, 'aria-label': words }, summary);
+  details.dataset.state = state;
+  if (isOpen) details.append(el('ul', {}, ...own.slice(0, count).map(item => rowOf(item, act, isGoing))));
+  if (isOpen && own.length > count) {
+    details.append(buttonOf('Show more of ' + own.length, () => { shown.set(state, count + MOST_SHOWN); act.show(); }));
+  }
+  return details;
+}
+
+const whenOf = item => weekday(item.day, 'short') + ' ' + item.day + ' ' + hoursOfItem(item);
+
+function rowOf(item, act, isGoing) {
+  const isBad = item.state === 'bad', words = [item.line ? 'Line ' + item.line + ': ' : '', isBad ? item.title : whenOf(item) + ', ' + labelOf(item.room) + ', ' + item.title].join('');
+  const said = [item.words, item.note].filter(each => each).join('; '), reason = said ? el('span', { className: 'hint' }, ' ' + said + '.') : null;
+  if (!mayAsk(item) || isGoing) return el('li', {}, words, reason, offersOf(item, act, isGoing));
+  const box = el('input', { type: 'checkbox', defaultChecked: item.isWanted, checked: item.isWanted });
+  box.dataset.key = 'tick ' + item.room + item.day + item.start;
+  box.addEventListener('change', () => { item.isWanted = box.checked; act.show(); });
+  return el('li', {}, el('label', { className: 'tick' }, box, words), reason, offersOf(item, act, isGoing));
+}
+
+/** For one that is taken or found no room: what is free near it, once that was asked for. */
+function offersOf(item, act, isGoing) {
+  if (isGoing || !['clash', 'none'].includes(item.state)) return null;
+  const free = offers.get(item);
+  if (!free) {
+    const button = buttonOf('What is free?', async () => { offers.set(item, await freeNear(item)); act.show(); }, { 'aria-label': 'What is free? ' + whenOf(item) });
+    button.dataset.key = 'free ' + item.room + item.day + item.start;
+    return button;
+  }
+  if (!free.length) return el('span', { className: 'hint' }, ' Nothing of that length is free on that day.');
+  return el('span', { className: 'buttons' }, ...free.map(slot => {
+    const words = labelOf(slot.room) + ' ' + hoursText(minuteOf(slot.start), minuteOf(slot.start) + item.length);
+    const button = buttonOf(words, () => { offers.delete(item); act.take(item, slot); }, { 'aria-label': (item.state === 'none' ? 'Ask for ' : 'Take ') + item.day + ', ' + words });
+    button.dataset.key = 'offer ' + item.day + words;
+    return button;
+  }));
+}
+
+/** Free hours of the item's day: some in its room, and one in each other. */
+export async function freeNear({ room, day, start, length }) {
+  const slots = [];
+  for (const { name } of [...office.rooms].sort((one, other) => (other.name === room) - (one.name === room))) {
+    const { rows } = await askSheet(name, day).catch(fault => { if (fault instanceof Fault) return { rows: null }; throw fault; });
+    const starts = rows ? nearestOf(rows, length, minuteOf(start), office.from, office.to) : [];
+    slots.push(...starts.slice(0, name === room ? MOST_OFFERS : 1).map(at => ({ room: name, day, start: timeOf(at) })));
+  }
+  return slots;
+}

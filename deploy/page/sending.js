@@ -1,0 +1,52 @@
+// One request of many, sent once, and what came of it. While the office takes none, as between two stretches of serving, it is tried
+// again, since it surely was not sent; where no reply came, the sheet and the error log say whether it is there.
+import { minuteOf, timeOf } from './texts.js';
+import { Fault, ask, askErrors, askMayBook, askSheet } from './office.js';
+import { REFUSALS } from './form.js';
+
+const PAUSE = 1000, TRIES = 60;
+
+const pause = () => new Promise(resolve => { setTimeout(resolve, PAUSE); });
+
+/** What this gives, once the office takes requests; `isStopped` ends the waiting. */
+export async function patiently(act, isStopped = () => false) {
+  for (let left = TRIES; ; left -= 1) {
+    try {
+      return await act();
+    } catch (fault) {
+      if (!(fault instanceof Fault) || fault.sent || !/not taking/.test(fault.message) || !left || isStopped()) throw fault;
+      await pause();
+    }
+  }
+}
+
+/** Sends a request: `booked` or `none` with the office's outcome, `refused` or `perhaps` with words. A fault means that it was not sent. */
+export async function sendRequest(asked, isStopped) {
+  await askMayBook();
+  try {
+    const { status, json } = await patiently(() => ask('/submit', JSON.stringify(asked)), isStopped);
+    if (status === 200) return { kind: json.state === 'booked' ? 'booked' : 'none', outcome: json, words: '' };
+    if (status !== 503) return { kind: 'refused', outcome: null, words: (REFUSALS[json.refusal] || [])[1] || json.name || 'it cannot be read' };
+    return await found(asked, json.name);
+  } catch (fault) {
+    if (!(fault instanceof Fault) || !fault.sent) throw fault;
+    return found(asked, fault.message);
+  }
+}
+
+/** Without a reply: what the office has of it. */
+async function found(asked, cause) {
+  const outcome = await lookFor(asked).catch(fault => { if (fault instanceof Fault) return null; throw fault; });
+  if (outcome) return { kind: outcome.state === 'booked' ? 'booked' : 'none', outcome, words: '' };
+  return { kind: 'perhaps', outcome: null, words: cause };
+}
+
+/** The booking of these hours and title, or else the request of them without a room, as an outcome; null where neither is there. */
+export async function lookFor({ room, day, start, length, title }, isOther = () => true) {
+  const from = minuteOf(start), { rows } = await askSheet(room, day);
+  const row = (rows || []).find(each => each.start === from && each.stop === from + length && each.title === title && isOther(each.id));
+  if (row) return { id: row.id, mark: row.mark, state: 'booked', day, start, stop: timeOf(row.stop) };
+  const line = (await askErrors(room)).map(each => /^([CT]) (\d+-\d+) (\d{4}-\S+) (\d\d:\d\d)-\S+ (.*)$/.exec(each) || [])
+    .find(([, , id, onDay, at, words]) => onDay === day && at === start && words === title && isOther(id));
+  return line ? { id: line[2], mark: line[1], state: 'logged' } : null;
+}
