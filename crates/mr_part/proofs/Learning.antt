@@ -18,6 +18,11 @@ use Rattle.mr_model.proofs.Orders.{committed-with, tentative-add_write}
 
 -- ---- rooms
 
+pub turned : (a b c : Bool) → (a || (b || c)) ≡ (b || (a || c))
+turned true true c = refl
+turned true false c = refl
+turned false b c = refl
+
 -- a list with one room more
 pub any-with_room : (name t : Text) (ts : List Text) → list_any (bytes_eq name) (with_room t ts) ≡ (bytes_eq name t || list_any (bytes_eq name) ts)
 any-with_room name t [] = refl
@@ -26,11 +31,6 @@ any-with_room name t (x ∷ xs) = go (text_before t x) (bytes_eq t x) refl (any-
     twice : (a b : Bool) → (a || b) ≡ (a || (a || b))
     twice true b = refl
     twice false b = refl
-
-    turned : (a b c : Bool) → (a || (b || c)) ≡ (b || (a || c))
-    turned true true c = refl
-    turned true false c = refl
-    turned false b c = refl
 
     go : (b c : Bool) → bytes_eq t x ≡ c → list_any (bytes_eq name) (with_room t xs) ≡ (bytes_eq name t || list_any (bytes_eq name) xs)
         → list_any (bytes_eq name) (cond b (t ∷ x ∷ xs) (cond c (x ∷ xs) (x ∷ with_room t xs))) ≡ (bytes_eq name t || (bytes_eq name x || list_any (bytes_eq name) xs))

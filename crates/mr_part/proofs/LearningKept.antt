@@ -1,7 +1,7 @@
 -- A candidate that takes a write or a commit shows the replica that takes it.
 use Rattle.std.proofs.Common.{◌≡◌, ℕ, suc, ◌+◌, ◌<◌, ◌≤◌, ◌==◌, ◌||◌, nat_le, Bool, true, false, cond, List, [], ◌∷◌, ◌++◌, length, Option, Some, None, is_some, ap, refl, sym, ◌∙◌, subst, append_assoc, ◌⊎◌, inl, inr, arith}
 use Rattle.std.specs.Prelude.{find, bytes_eq}
-use Rattle.std.specs.List.{filter}
+use Rattle.std.specs.List.{filter, list_any}
 use Rattle.std.specs.Option.{option_map}
 use Rattle.std.proofs.lemmas.Bool.{cond-true, cond-false}
 use Rattle.std.proofs.lemmas.Bool.Decides.{nat_tests}
@@ -36,7 +36,7 @@ use Rattle.mr_replay.specs.Seen.{has_room}
 use Rattle.mr_part.specs.declared.batch.candidate.Candidate.{Candidate}
 use Rattle.mr_part.specs.Taken.{ShowsTaken, CoversScope}
 use Rattle.mr_part.proofs.Judging.{inside_named}
-use Rattle.mr_part.proofs.Learning.{any-with_room, kept-learned, kept-moved}
+use Rattle.mr_part.proofs.Learning.{turned, any-with_room, kept-learned, kept-moved}
 
 -- ---- lists
 
@@ -131,7 +131,7 @@ shows-learned a items inside c new p w sound small next named covers shows summa
     let counted = ap (λ ws. length (filter inside ws)) (kept-learned r w sound next) ∙ count_with inside w (kept_committed r) (tentative r) is_in in
     record {
       summary = summary ∙ ap (λ (s : Summary). noted_write s w.stamp) shows.summary ∙ summary-write r w small next;
-      rooms = λ name. rooms name ∙ ap (λ b. bytes_eq name w.room || b) (shows.rooms name) ∙ sym (any-with_room name w.room r.rooms);
+      rooms = λ name. ap (λ b. list_any (bytes_eq name) a.rooms || b) (rooms name) ∙ turned (list_any (bytes_eq name) a.rooms) (bytes_eq name w.room) (has_room c.rooms name) ∙ ap (λ b. bytes_eq name w.room || b) (shows.rooms name) ∙ sym (any-with_room name w.room r.rooms);
       kept = λ id. kept id ∙ ap (cond (same_id (id_of w) id) (Some (opened w))) (shows.kept id) ∙ found id (same_id (id_of w) id) refl;
       writes = omega (arith, counted, was);
       marks = shows.marks;
@@ -249,7 +249,7 @@ module _ (a : Replica) (items : List Item) (inside : Write → Bool) (c : Candid
       let counted = shows.writes in
       record {
         summary = noted ∙ summary;
-        rooms = λ name. ap (λ set. has_room set name) rooms ∙ shows.rooms name;
+        rooms = λ name. ap (λ set. list_any (bytes_eq name) a.rooms || has_room set name) rooms ∙ shows.rooms name;
         kept = λ other. kept other ∙ moved_in other (same_id id other) refl;
         writes = omega (arith, before, same, after, counted);
         marks = λ v. marked v (same_id id (id_of v)) refl (shows.marks v);

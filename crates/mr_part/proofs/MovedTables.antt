@@ -1,8 +1,9 @@
 -- The change between two replicas, where all but some writes keep their rows, turns the tables of the one into those of the other.
-use Rattle.std.proofs.Common.{◌≡◌, refl, sym, ap, ◌∙◌, subst, ℕ, zero, suc, ◌+◌, ◌≤◌, Bool, true, false, cond, eqb, ltb, List, [], ◌∷◌, length, map, ◌⊎◌, inl, inr, Option, Some, None, arith, lt-ltb}
-use Rattle.std.proofs.lemmas.Bool.{true≢false, cond-false}
-use Rattle.std.specs.Prelude.{flat_map, ◌↔◌}
-use Rattle.std.specs.List.{filter_map, cons_option}
+use Rattle.std.proofs.Common.{◌≡◌, refl, sym, ap, ◌∙◌, subst, ℕ, zero, suc, ◌+◌, ◌≤◌, Bool, true, false, ◌||◌, cond, eqb, ltb, List, [], ◌∷◌, length, map, ◌⊎◌, inl, inr, Option, Some, None, arith, lt-ltb}
+use Rattle.std.proofs.lemmas.Bool.{true≢false, cond-false, or_cases, or_left, or_right}
+use Rattle.std.proofs.lemmas.Slice.Eq.{bytes_eq-Decides}
+use Rattle.std.specs.Prelude.{flat_map, bytes_eq, ◌↔◌}
+use Rattle.std.specs.List.{filter_map, list_any, cons_option}
 use Rattle.mr_model.specs.Texts.{Text, numbers_on}
 use Rattle.mr_model.specs.Slots.{Slot}
 use Rattle.mr_model.specs.Writes.{Id, Action, Books, Cancels, Write, id_of}
@@ -17,7 +18,7 @@ use Rattle.mr_model.specs.Dropped.{Has}
 use Rattle.mr_model.proofs.ErrorsTell.{sorted_filter_map}
 use Rattle.mr_model.proofs.KeyOrder.{WriteBefore, by_id_sorted, numbers_low}
 use Rattle.mr_model.proofs.KnownById.{one_known}
-use Rattle.mr_model.proofs.Members.{has_map, map_has, has_filter, filter_has, has_filter_map, filter_map_has, has_among, among_has}
+use Rattle.mr_model.proofs.Members.{has_map, map_has, has_filter, filter_has, has_filter_map, filter_map_has, has_among, among_has, any_has, has_any}
 use Rattle.mr_model.proofs.RowsById.{flat_has, has_by_id, by_id_has, map_filter}
 use Rattle.mr_model.proofs.RowsOfKnown.{rows_of_known}
 use Rattle.mr_model.proofs.RowsTell.{booked_is, erred_is, cancelled_is, cancel_is}
@@ -29,6 +30,7 @@ use Rattle.mr_tables.specs.Change.{put_all, rows_without, id_before, ChangeView,
 use Rattle.mr_tables.specs.Written.{not_booked, not_erred, not_cancelled, with_places}
 use Rattle.mr_tables.specs.TableOrders.{InOrder, number_order, name_order, id_before_from}
 use Rattle.mr_tables.proofs.Putting.{Lacks, puts_make, change_makes}
+use Rattle.mr_part.specs.Sets.{AreTogether}
 
 -- ---- one table of writes
 
@@ -187,6 +189,26 @@ vectors_move a b rows ha hb stays new others =
 pub rooms_move : (a b : Replica) (rooms : List Text) → IsReplica a → IsReplica b → ((t : Text) → Has t b.rooms ↔ (Has t rooms ⊎ Has t a.rooms)) → put_all text_before (λ name. name) rooms a.rooms ≡ b.rooms
 rooms_move a b rooms ha hb are =
     puts_make text_before (λ name. name) name_order rooms a.rooms b.rooms ha.rooms_in_order hb.rooms_in_order (λ t h. (are t).1 (inl h)) (λ t h l. (are t).1 (inr h)) (λ t h. (are t).0 h)
+
+room_there : (t : Text) (ts : List Text) → list_any (bytes_eq t) ts ≡ true → Has t ts
+room_there t ts e =
+    let (u, there, same) = has_any (bytes_eq t) ts e in
+    subst (λ v. Has v ts) (sym ((bytes_eq-Decides t u).0 same)) there
+
+there_room : (t : Text) (ts : List Text) → Has t ts → list_any (bytes_eq t) ts ≡ true
+there_room t ts h = any_has (bytes_eq t) t ts ((bytes_eq-Decides t t).1 refl) h
+
+-- the rooms that come to the known ones complete them
+pub rooms_complete : (a b : Replica) (rooms : List Text) → IsReplica a → IsReplica b → AreTogether a.rooms (λ t. list_any (bytes_eq t) rooms) b.rooms → put_all text_before (λ name. name) rooms a.rooms ≡ b.rooms
+rooms_complete a b rooms ha hb are = rooms_move a b rooms ha hb (λ t. (λ h. there t (or_cases (list_any (bytes_eq t) a.rooms) (list_any (bytes_eq t) rooms) (are t ∙ there_room t b.rooms h)), λ h. room_there t b.rooms (sym (are t) ∙ back t h)))
+  where
+    there : (t : Text) → (list_any (bytes_eq t) a.rooms ≡ true) ⊎ (list_any (bytes_eq t) rooms ≡ true) → Has t rooms ⊎ Has t a.rooms
+    there t (inl e) = inr (room_there t a.rooms e)
+    there t (inr e) = inl (room_there t rooms e)
+
+    back : (t : Text) → Has t rooms ⊎ Has t a.rooms → (list_any (bytes_eq t) a.rooms || list_any (bytes_eq t) rooms) ≡ true
+    back t (inl h) = or_right (list_any (bytes_eq t) a.rooms) (list_any (bytes_eq t) rooms) (there_room t rooms h)
+    back t (inr h) = or_left (list_any (bytes_eq t) a.rooms) (list_any (bytes_eq t) rooms) (there_room t a.rooms h)
 
 -- ---- the log
 

@@ -27,7 +27,6 @@ use Rattle.mr_part.specs.Moves.{rooms_named, AreTouched, moves_in, moves_row, is
 use Rattle.mr_part.specs.declared.kept_rows.KeptRow.{KeptRow}
 use Rattle.mr_part.specs.KeptRows.{kept_row, row_writes, row_undos}
 use Rattle.mr_part.specs.Logged.{undo_with}
-use Rattle.mr_part.specs.Sets.{AreSameRooms}
 use Rattle.mr_part.specs.Taken.{CoversScope, is_inside}
 use Rattle.mr_part.specs.KeptWrites.{held_place, held_row}
 use Rattle.mr_part.proofs.OrderNumbers.{dropped_long, order_numbers, slice_left, has_place}
@@ -109,10 +108,9 @@ module _ (a : Replica) (items : List Item) (inside : Write → Bool) (sound : Is
           subst (λ u. Has u (map (λ (v : Write). v.room) (filter (λ v. same_id (id_of v) id) ws))) (sym (e ∙ ap (λ (v : LogRow). v.room) is))
           (has_map (λ (v : Write). v.room) w (filter (λ v. same_id (id_of v) id) ws) (has_filter (λ (v : Write). same_id (id_of v) id) w ws own there))
 
-  pub touched_told : (rooms : List Text) → AreSameRooms rooms (flat_map (rooms_named (length a.commits) (filter inside (kept_in_order a))) items) → AreTouched rooms a items
-  touched_told rooms same room =
-      same room
-      ∙ same_any room (flat_map (rooms_named (length a.commits) (filter inside (kept_in_order a))) items) (touched_rooms (tables_of a) items)
+  pub touched_told : AreTouched (flat_map (rooms_named (length a.commits) (filter inside (kept_in_order a))) items) a items
+  touched_told room =
+      same_any room (flat_map (rooms_named (length a.commits) (filter inside (kept_in_order a))) items) (touched_rooms (tables_of a) items)
       (λ t h. let (x, g, k) = flat_has (rooms_named (length a.commits) (filter inside (kept_in_order a))) t items h in has_flat (rooms_of_item (length a.commits) (tables_of a).log) t x items g (here t x g k))
       (λ t h. let (x, g, k) = flat_has (rooms_of_item (length a.commits) (tables_of a).log) t items h in has_flat (rooms_named (length a.commits) (filter inside (kept_in_order a))) t x items g (back t x g k))
 

@@ -1,6 +1,8 @@
 -- Taking all items of a batch at a candidate.
-use Rattle.std.proofs.Common.{◌≡◌, ℕ, zero, suc, ◌+◌, ◌<◌, ◌≤◌, Bool, true, Some, List, [], ◌∷◌, length, map, take, drop, slice_get, get_or, Result, Ok, Err, ap, refl, sym, ◌∙◌, subst, inl, inr, arith, IsTrue}
-use Rattle.std.specs.List.{list_all, filter, AllByRecursion}
+use Rattle.std.proofs.Common.{◌≡◌, ℕ, zero, suc, ◌+◌, ◌<◌, ◌≤◌, ◌||◌, ◌&&◌, not, Bool, true, false, Some, List, [], ◌∷◌, length, map, take, drop, slice_get, get_or, Result, Ok, Err, ap, refl, sym, ◌∙◌, subst, inl, inr, arith, IsTrue}
+use Rattle.std.specs.List.{list_all, list_any, filter, AllByRecursion}
+use Rattle.std.specs.Prelude.{bytes_eq}
+use Rattle.std.proofs.Math.Bool.{or-false}
 use Rattle.std.proofs.lemmas.Bool.{and_parts}
 use Rattle.std.proofs.lemmas.List.{length-map}
 use Rattle.mr_model.specs.Texts.{Text}
@@ -21,7 +23,10 @@ use Rattle.mr_part.specs.KeptRows.{kept_row}
 use Rattle.mr_part.proofs.LearningKept.{held_all}
 use Rattle.mr_part.specs.declared.batch.candidate.Candidate.{Candidate}
 use Rattle.mr_part.specs.Taken.{ShowsTaken, ShowsPicked, TakesItem, TakesItems, TakenPicked}
-use Rattle.mr_part.specs.Sets.{IsSetOf}
+use Rattle.std.specs.BTreeMap.{is_at}
+use Rattle.std.specs.Cmp.Lexicographic.{slice_cmp}
+use Rattle.std.specs.Ordering.{nat_cmp}
+use Rattle.mr_replay.specs.Seen.{has_room}
 use Rattle.mr_part.proofs.Receiving.{drop_at, all_at, drop_none, err≢ok, item-within}
 use Rattle.mr_model.proofs.BatchesReadBack.{ok_inj}
 
@@ -85,16 +90,26 @@ pub inside-end : (a : Replica) (inside : Write → Bool) (items : List Item) (k 
 inside-end a inside items k p c h at = at.rest ∙ ap (λ xs. take_items xs (2 + k) (Ok at.progress)) (drop_none items k h)
 
 -- before the first item
-pub taken-none : (a : Replica) (inside : Write → Bool) (c : Candidate) → IsReplica a → c.summary ≡ summary_of a → IsSetOf c.rooms a.rooms → HasKept c.kept (kept_row a) (filter inside (kept_in_order a)) → ShowsTaken a inside c (nothing_taken a)
-taken-none a inside c sound summary rooms kept = record { summary = summary; rooms = rooms; kept = held_all a inside c.kept sound kept; writes = omega arith; marks = λ w. inl refl; counts = λ s. omega arith }
+pub taken-none : (a : Replica) (inside : Write → Bool) (c : Candidate) → IsReplica a → c.summary ≡ summary_of a → c.rooms.keys ≡ [] → HasKept c.kept (kept_row a) (filter inside (kept_in_order a)) → ShowsTaken a inside c (nothing_taken a)
+taken-none a inside c sound summary rooms kept = record { summary = summary; rooms = λ name. ap (λ ks. list_any (bytes_eq name) a.rooms || list_any (is_at (slice_cmp nat_cmp name)) ks) rooms ∙ or-false (list_any (bytes_eq name) a.rooms); kept = held_all a inside c.kept sound kept; writes = omega arith; marks = λ w. inl refl; counts = λ s. omega arith }
 
 -- behind the last one, where the rooms and the writes are put into their orders
-pub taken-all : (a : Replica) (inside : Write → Bool) (c : Candidate) (p : Progress) (rooms : List Text) (kept : List KeptRow) → ShowsTaken a inside c p → rooms ≡ p.replica.rooms → kept ≡ map (held_row a p.replica) (filter inside (kept_in_order p.replica))
+pub taken-all : (a : Replica) (inside : Write → Bool) (c : Candidate) (p : Progress) (rooms : List Text) (kept : List KeptRow) → ShowsTaken a inside c p → ((name : Text) → list_any (bytes_eq name) rooms ≡ (not (list_any (bytes_eq name) a.rooms) && has_room c.rooms name)) → kept ≡ map (held_row a p.replica) (filter inside (kept_in_order p.replica))
     → ShowsPicked a inside (record { summary = c.summary; rooms = rooms; kept = kept }) p
 taken-all a inside c p rooms kept shows rooms_are kept_are =
     let size = ap length kept_are ∙ length-map (filter inside (kept_in_order p.replica)) (held_row a p.replica) in
     let was = shows.writes in
-    record { summary = shows.summary; rooms = rooms_are; kept = kept_are; writes = omega (arith, size, was); marks = shows.marks }
+    record {
+      summary = shows.summary;
+      rooms = λ name. ap (λ b. list_any (bytes_eq name) a.rooms || b) (rooms_are name) ∙ beside (list_any (bytes_eq name) a.rooms) (has_room c.rooms name) ∙ shows.rooms name;
+      kept = kept_are;
+      writes = omega (arith, size, was);
+      marks = shows.marks;
+    }
+  where
+    beside : (a b : Bool) → (a || (not a && b)) ≡ (a || b)
+    beside true b = refl
+    beside false b = refl
 
 -- items within the limits, one by one
 pub all_within : (items : List Item) → list_all (is_item Second) items ≡ true → AllByRecursion IsItem items

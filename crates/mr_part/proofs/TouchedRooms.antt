@@ -10,10 +10,9 @@ use Rattle.mr_model.specs.Writes.{Id, Write, same_id}
 use Rattle.mr_model.specs.Exchange.{Item, W, C}
 use Rattle.mr_model.proofs.CommittedPlaces.{same_id_comm}
 use Rattle.mr_part.specs.declared.touched.Touched.{Touched}
-use Rattle.mr_part.specs.Sets.{has_id, IsSetOf, AreSameRooms}
+use Rattle.mr_part.specs.Sets.{has_id, IsSetOf}
 use Rattle.mr_replay.specs.Seen.{has_room}
 use Rattle.mr_part.specs.Touched.{commits_id, writes_in, IsTouchedBy}
-use Rattle.mr_part.proofs.Sets.{set_of_keys}
 
 -- ---- tests of lists
 
@@ -78,7 +77,3 @@ touched_found id room commits rows f of_write of_commit items touched set is add
     added name
     ∙ (λ t. is.rooms name t || list_any (λ row. is.committed (id row) t && bytes_eq name (room row)) rows)
     ∙ sym (touched_apart id room commits rows name f of_write of_commit items)
-
--- and so are the set's rooms as a list
-pub names_found : (set : BTreeSet Text) (rooms names : List Text) → IsSetOf set rooms → names ≡ set.keys → AreSameRooms names rooms
-names_found set rooms names is keys name = ap (list_any (bytes_eq name)) keys ∙ sym (set_of_keys set name) ∙ is name

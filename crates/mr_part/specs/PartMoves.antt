@@ -1,5 +1,6 @@
 -- What a batch undoes and executes anew, as a call of a part gets it, and what the part answers.
-use Rattle.std.specs.Prelude.{◌≡◌, ℕ, List, map, filter, Result, Ok, Err, IfOk, ◌⊎◌, ◌==◌, ◌++◌, ◌||◌, nat_lt, Bool, true, false, not, take, drop}
+use Rattle.std.specs.Prelude.{◌≡◌, ℕ, List, map, filter, Result, Ok, Err, IfOk, ◌⊎◌, ◌==◌, ◌++◌, ◌||◌, nat_lt, Bool, true, false, not, take, drop, bytes_eq}
+use Rattle.std.specs.List.{list_any}
 use Rattle.mr_model.specs.Texts.{Text}
 use Rattle.mr_model.specs.Writes.{Write}
 use Rattle.mr_model.specs.Replica.{Replica, IsReplica, tentative}
@@ -9,7 +10,6 @@ use Rattle.mr_model.specs.Step.{after_items}
 use Rattle.mr_model.specs.Tables.{tables_of}
 use Rattle.mr_model.specs.Taking.{take_items}
 use Rattle.mr_model.specs.View.{place_of}
-use Rattle.mr_model.specs.Dropped.{Has}
 use Rattle.mr_model.specs.Scopes.{OfItems}
 use Rattle.mr_model.specs.Moving.{may_move, again, BatchMoves}
 use Rattle.mr_base.specs.declared.refusals.Refusal.{Refusal}
@@ -22,21 +22,20 @@ use Rattle.mr_tables.specs.Change.{ChangeView, changed}
 use Rattle.mr_part.specs.Answering.{nothing_taken, reply_with}
 use Rattle.mr_part.specs.Parts.{part_of}
 use Rattle.mr_part.specs.Logged.{undo_with}
+use Rattle.mr_part.specs.Sets.{AreTogether}
 use Rattle.mr_part.specs.KeptWrites.{held_place}
 use Rattle.mr_model.specs.Replay.{Place, Taken, Logged, Done, Void}
 
--- The batch leads from the first replica, whose part has these numbers, rooms and board, to the second one, whose numbers and rooms
--- are those; the undo rows are those of the tentative writes that it may move, and the writes are those that it has executed
+-- The batch leads from the first replica, whose part has these numbers and board, to the second one, which has those numbers, and these
+-- rooms more; the undo rows are those of the tentative writes that it may move, and the writes are those that it has executed
 -- anew, each beside what undid it, or would undo it if it were logged.
-pub record MovesPart (old : Summary) (known : List Text) (board : Rows) (items : List Item) (a b : Replica) (summary : Summary) (rooms : List Text) (undone : List UndoRow) (writes : List Write) (was : List UndoRow) : Type 0 where
+pub record MovesPart (old : Summary) (board : Rows) (items : List Item) (a b : Replica) (summary : Summary) (rooms : List Text) (undone : List UndoRow) (writes : List Write) (was : List UndoRow) : Type 0 where
   pub sound : IsReplica a
   pub old_is : old ≡ summary_of a
-  pub known_are : known ≡ a.rooms
   pub board_is : board ≡ (part_of (OfItems items) a).board
   pub moves : BatchMoves a b items
-  pub keeps_rooms : (t : Text) → Has t a.rooms → Has t b.rooms
   pub summary_is : summary ≡ summary_of b
-  pub rooms_are : rooms ≡ b.rooms
+  pub rooms_are : AreTogether a.rooms (λ t. list_any (bytes_eq t) rooms) b.rooms
   pub undone_are : undone ≡ map (undo_with (place_of a)) (filter (may_move a items) (tentative a))
   pub writes_are : writes ≡ again a items moves.news b
   pub was_are : was ≡ map (undo_with (held_place a)) writes

@@ -1,5 +1,5 @@
 -- Ordered sets of ids and of rooms, which are made once for a batch.
-use Rattle.std.specs.Prelude.{◌≡◌, Bool, List, bytes_eq}
+use Rattle.std.specs.Prelude.{◌≡◌, ◌||◌, Bool, List, bytes_eq}
 use Rattle.std.specs.BTreeSet.{BTreeSet, contains}
 use Rattle.std.specs.List.{list_any}
 use Rattle.mr_model.specs.Texts.{Text}
@@ -15,6 +15,6 @@ has_id ids id = contains id_cmp ids id
 abbrev pub IsSetOf : BTreeSet Text → List Text → Type 0
 IsSetOf set rooms = (room : Text) → has_room set room ≡ list_any (bytes_eq room) rooms
 
--- the same rooms, in whatever order and number
-abbrev pub AreSameRooms : List Text → List Text → Type 0
-AreSameRooms xs ys = (room : Text) → list_any (bytes_eq room) xs ≡ list_any (bytes_eq room) ys
+-- the known rooms and those that pass the test are together these
+abbrev pub AreTogether : List Text → (Text → Bool) → List Text → Type 0
+AreTogether known more rooms = (room : Text) → (list_any (bytes_eq room) known || more room) ≡ list_any (bytes_eq room) rooms

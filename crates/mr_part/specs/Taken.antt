@@ -1,5 +1,6 @@
 -- What a batch makes of numbers, rooms and kept writes, item by item.
-use Rattle.std.specs.Prelude.{◌≡◌, ℕ, ◌+◌, ◌<◌, ◌≤◌, ◌||◌, ◌&&◌, Bool, true, List, length, take, map, filter, slice_get, Some, Result, Ok, Err, ◌⊎◌}
+use Rattle.std.specs.Prelude.{◌≡◌, ℕ, ◌+◌, ◌<◌, ◌≤◌, ◌||◌, ◌&&◌, Bool, true, List, length, take, map, filter, slice_get, Some, Result, Ok, Err, ◌⊎◌, bytes_eq}
+use Rattle.std.specs.List.{list_any}
 use Rattle.std.specs.Option.{option_map}
 use Rattle.mr_model.specs.Texts.{Text}
 use Rattle.mr_model.specs.Writes.{Id, Write, id_of}
@@ -19,9 +20,10 @@ use Rattle.mr_part.specs.declared.batch.candidate.Candidate.{Candidate}
 use Rattle.mr_part.specs.declared.kept_rows.KeptRow.{KeptRow}
 use Rattle.mr_part.specs.Candidate.{write_verdict_with, commit_verdict}
 use Rattle.mr_part.specs.KeptWrites.{KeptWrites, HasKept, logged_at, is_number_of, held_row}
-use Rattle.mr_part.specs.Sets.{IsSetOf}
+use Rattle.mr_part.specs.Sets.{AreTogether}
+use Rattle.mr_replay.specs.Seen.{has_room}
 
--- the numbers, the rooms in the order of names and the kept writes in that of execution, as all items leave them
+-- the numbers, the new rooms in the order of names and the kept writes in that of execution, as all items leave them
 pub record ReachedView : Type 0 where
   pub summary : Summary
   pub rooms : List Text
@@ -39,7 +41,7 @@ CoversScope a items inside = (w : Write) → is_inside a items w ≡ true → in
 -- the candidate is what the replica that is reached so far from the first would have of the writes that pass this test
 pub record ShowsTaken (a : Replica) (inside : Write → Bool) (c : Candidate) (p : Progress) : Type 0 where
   pub summary : c.summary ≡ summary_of p.replica
-  pub rooms : IsSetOf c.rooms p.replica.rooms
+  pub rooms : AreTogether a.rooms (has_room c.rooms) p.replica.rooms
   pub kept : HasKept c.kept (held_row a p.replica) (filter inside (kept_in_order p.replica))
   -- all writes that came are there
   pub writes : length (filter inside (kept_in_order p.replica)) ≡ length (filter inside (kept_in_order a)) + p.writes
@@ -51,7 +53,7 @@ pub record ShowsTaken (a : Replica) (inside : Write → Bool) (c : Candidate) (p
 -- the same of what all items lead to
 pub record ShowsPicked (a : Replica) (inside : Write → Bool) (c : ReachedView) (p : Progress) : Type 0 where
   pub summary : c.summary ≡ summary_of p.replica
-  pub rooms : c.rooms ≡ p.replica.rooms
+  pub rooms : AreTogether a.rooms (λ t. list_any (bytes_eq t) c.rooms) p.replica.rooms
   pub kept : c.kept ≡ map (held_row a p.replica) (filter inside (kept_in_order p.replica))
   pub writes : length c.kept ≡ length (filter inside (kept_in_order a)) + p.writes
   pub marks : (w : Write) → (seq_of p.replica w ≡ seq_of a w) ⊎ (inside w ≡ true)

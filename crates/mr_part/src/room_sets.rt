@@ -1,9 +1,9 @@
-ghost use Rattle.std.specs.Prelude.{◌≡◌, ◌||◌, not, filter, bytes_eq, OnOk, IfOk, IfErr};
+ghost use Rattle.std.specs.Prelude.{◌≡◌, ◌&&◌, ◌||◌, not, bytes_eq, OnOk, IfOk, IfErr};
+ghost use Rattle.std.specs.List.{list_any};
 ghost use Rattle.std.specs.BTreeSet.{IsOrdered};
 ghost use Rattle.std.specs.Cmp.Lexicographic.{slice_cmp};
 ghost use Rattle.std.specs.Ordering.{nat_cmp};
 ghost use Rattle.mr_model.specs.Texts.{Text};
-ghost use Rattle.mr_tables.specs.Rooms.{rooms_beside};
 ghost use Rattle.mr_part.specs.Sets.{IsSetOf};
 ghost use Rattle.mr_replay.specs.Seen.{has_room};
 
@@ -50,30 +50,20 @@ pub fn names_of(alloc: Global, set: RoomSet) -> Result<Vec<RoomName>, Refusal>
     Ok(names)
 }
 
-/// Those of the rooms that are not among the known ones. These are put into a set once, so that each room costs a logarithm.
-pub fn unknown_rooms(
+/// Those rooms of a set that are not among the known ones, in the order of names. Nothing is copied, and each known room costs a
+/// logarithm of how many the set has.
+pub(crate) fn unknown_rooms(
     alloc: Global,
     known: &[RoomName],
-    rooms: &[RoomName],
+    rooms: RoomSet,
 ) -> Result<Vec<RoomName>, Refusal>
-    ensures unknown { IfOk result (λ unknown. unknown.items ≡ rooms_beside known.now rooms.now) }
+    ensures unknown { IfOk result (λ unknown. (name : Text) → list_any (bytes_eq name) unknown.items ≡ (not (list_any (bytes_eq name) known.now) && has_room rooms name)) }
     ensures only { IfErr result (λ e. e ≡ Refusal.OutOfMemory) }
 {
-    let set = room_set(alloc, known)?;
-    let unknown = rooms_outside(alloc, &set, rooms)?;
-    Ok(unknown)
-}
-
-/// Those of the rooms that are not in the set.
-fn rooms_outside(alloc: Global, set: &RoomSet, rooms: &[RoomName]) -> Result<Vec<RoomName>, Refusal>
-    ensures outside { IfOk result (λ outside. outside.items ≡ filter (λ name. not (has_room set.now name)) rooms.now) }
-    ensures only { IfErr result (λ e. e ≡ Refusal.OutOfMemory) }
-{
-    let mut outside = Vec::new(alloc);
-    for room in rooms {
-        if !set.contains(room) {
-            outside.push(room.copy(alloc)?)?;
-        }
+    let mut left = rooms;
+    for room in known {
+        left.remove(room);
     }
-    Ok(outside)
+    let unknown = names_of(alloc, left)?;
+    Ok(unknown)
 }

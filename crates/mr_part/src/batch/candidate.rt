@@ -22,15 +22,16 @@ use crate::batch::kept_writes::{
     KeptWrites, find_write, has_number, in_run_order, kept_writes, number_write,
 };
 use crate::kept_rows::{KeptRow, kept_with};
-use crate::room_sets::{RoomSet, add_room, names_of, room_set};
+use crate::room_sets::{RoomSet, add_room, unknown_rooms};
 use mr_base::{CommitNumber, Item, Refusal, RoomName, Write, WriteId};
 use mr_replay::Place;
 use mr_tables::summary::Summary;
 use std::alloc::Global;
+use std::collections::BTreeSet;
 use std::marker::Model;
 
-/// The numbers, rooms and kept writes of a part, with the items of a batch that are taken so far. A batch is taken whole or
-/// not at all. Rooms and writes stand in ordered sets, so that an item costs a logarithm.
+/// The numbers and kept writes of a part, with the items of a batch that are taken so far, and the rooms of the writes that are new by
+/// these. A batch is taken whole or not at all. Rooms and writes stand in ordered sets, so that an item costs a logarithm.
 #[derive(Drop)]
 struct Candidate {
     alloc: Global,
@@ -43,7 +44,7 @@ struct Candidate {
 #[derive(Drop)]
 pub struct Reached {
     pub summary: Summary,
-    /// In the order of names.
+    /// Those that weren't known, in the order of names.
     pub rooms: Vec<RoomName>,
     /// In the order of execution.
     pub kept: Vec<KeptRow>,
@@ -57,44 +58,38 @@ impl Model for Reached {
     ghost view = { λ c. record { summary = c.summary; rooms = c.rooms.items; kept = c.kept.items } };
 }
 
-/// What these numbers, rooms and kept writes are with all items, the first of which stands in
-/// line 2, or why the batch is refused.
+/// What these numbers and kept writes are with all items, the first of which stands in line 2, and which rooms come to the known
+/// ones; or why the batch is refused.
 pub fn reached_with(
     alloc: Global,
     summary: Summary,
-    rooms: &[RoomName],
+    known: &[RoomName],
     kept: Vec<KeptRow>,
     items: &[Item],
 ) -> Result<Reached, Refusal>
     ensures takes { (a : Replica) (inside : WriteOfReplica → Bool) → IsReplica a → IsTrue (list_all (is_item Second) (map item_of items.now)) → length items.now + 2 < 2 ^ 64
-        → CoversScope a (map item_of items.now) inside → summary ≡ summary_of a → rooms.now ≡ a.rooms → kept.items ≡ map (kept_row a) (filter inside (kept_in_order a))
+        → CoversScope a (map item_of items.now) inside → summary ≡ summary_of a → known.now ≡ a.rooms → kept.items ≡ map (kept_row a) (filter inside (kept_in_order a))
         → TakenPicked a inside (take_items (map item_of items.now) 2 (Ok (nothing_taken a))) result }
     ensures own { NeverStore result }
 {
-    let mut candidate = Candidate::new(alloc, summary, rooms, kept)?;
+    let mut candidate = Candidate::new(alloc, summary, kept)?;
     candidate.take_all(items)?;
-    let reached = candidate.reached()?;
+    let reached = candidate.reached(known)?;
     Ok(reached)
 }
 
 impl Candidate {
-    /// What these numbers, rooms and kept writes are before the first item.
-    fn new(
-        alloc: Global,
-        summary: Summary,
-        rooms: &[RoomName],
-        kept: Vec<KeptRow>,
-    ) -> Result<Candidate, Refusal>
-        ensures begins { (a : Replica) (inside : WriteOfReplica → Bool) → IsReplica a → summary ≡ summary_of a → rooms.now ≡ a.rooms → kept.items ≡ map (kept_row a) (filter inside (kept_in_order a))
+    /// What these numbers and kept writes are before the first item.
+    fn new(alloc: Global, summary: Summary, kept: Vec<KeptRow>) -> Result<Candidate, Refusal>
+        ensures begins { (a : Replica) (inside : WriteOfReplica → Bool) → IsReplica a → summary ≡ summary_of a → kept.items ≡ map (kept_row a) (filter inside (kept_in_order a))
             → IfOk result (λ c. ShowsTaken a inside c (nothing_taken a)) }
         ensures only { IfErr result (λ e. e ≡ Refusal.OutOfMemory) }
     {
-        let rooms = room_set(alloc, rooms)?;
         let kept = kept_writes(alloc, kept)?;
         Ok(Candidate {
             alloc,
             summary,
-            rooms,
+            rooms: BTreeSet::new(alloc),
             kept,
         })
     }
@@ -200,9 +195,9 @@ impl Candidate {
         number_write(&mut self.kept, id, self.summary.commits)
     }
 
-    /// The rooms and the writes in their orders.
-    fn reached(self) -> Result<Reached, Refusal>
-        ensures reached { (a : Replica) (inside : WriteOfReplica → Bool) (p : Progress) → IsReplica p.replica → ShowsTaken a inside self p → IfOk result (λ x. ShowsPicked a inside x p) }
+    /// The rooms that aren't among the known ones, and the writes, in their orders.
+    fn reached(self, known: &[RoomName]) -> Result<Reached, Refusal>
+        ensures reached { (a : Replica) (inside : WriteOfReplica → Bool) (p : Progress) → IsReplica p.replica → known.now ≡ a.rooms → ShowsTaken a inside self p → IfOk result (λ x. ShowsPicked a inside x p) }
         ensures only { IfErr result (λ e. e ≡ Refusal.OutOfMemory) }
     {
         let Candidate {
@@ -211,7 +206,7 @@ impl Candidate {
             rooms,
             kept,
         } = self;
-        let rooms = names_of(alloc, rooms)?;
+        let rooms = unknown_rooms(alloc, known, rooms)?;
         let kept = in_run_order(alloc, kept)?;
         Ok(Reached {
             summary,

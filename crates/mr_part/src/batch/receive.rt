@@ -81,15 +81,13 @@ impl Part {
         let reached = reached_with(alloc, summary, &rooms, kept, items)?;
         let Reached {
             summary: numbers,
-            rooms: names,
+            rooms: new_rooms,
             kept,
         } = reached;
         let writes = (kept.len() as u64).saturating_sub(had);
         let commits = numbers.commits.saturating_sub(summary.commits);
         let anew = again_in(alloc, kept, moving, summary.commits)?;
-        let change = moved(
-            alloc, &summary, &rooms, board, &numbers, &names, undone, anew,
-        )?;
+        let change = moved(alloc, &summary, board, &numbers, new_rooms, undone, anew)?;
         Ok((writes, commits, change))
     }
 }

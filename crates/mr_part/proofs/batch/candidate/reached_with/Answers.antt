@@ -16,7 +16,7 @@ returns-in_err-candidate-clause-takes c = λ a inside sound good short covers su
 pub returns-in_err-take_all-clause-takes : goal.returns-in_err-take_all-clause-takes
 returns-in_err-take_all-clause-takes c = λ a inside sound good short covers summary rooms kept.
     let x = err_from_is_err_and c.from_residual-in_err-take_all.result c.from_residual-in_err-take_all.ensures.1 in
-    let shows = c.in_ok-candidate.ensures.begins a inside sound summary rooms kept in
+    let shows = c.in_ok-candidate.ensures.begins a inside sound summary kept in
     subst (TakenPicked a inside (take_items (map item_of c.args.items.now) 2 (Ok (nothing_taken a)))) (sym (x.1 ∙ ap Err x.2)) (items-failed a inside (map item_of c.args.items.now) (nothing_taken a) c.take_all.new.self c.in_err-take_all.field-0.0 (c.in_err-take_all.ensures.takes a inside (nothing_taken a) sound good short covers shows))
 
 pub returns-in_err-reached-clause-takes : goal.returns-in_err-reached-clause-takes
@@ -27,7 +27,7 @@ returns-in_err-reached-clause-takes c = λ a inside sound good short covers summ
 pub returns-clause-takes : goal.returns-clause-takes
 returns-clause-takes c = λ a inside sound good short covers summary rooms kept.
     let items = map item_of c.args.items.now in
-    let shows = c.in_ok-candidate.ensures.begins a inside sound summary rooms kept in
+    let shows = c.in_ok-candidate.ensures.begins a inside sound summary kept in
     let (p, exact, taken) = c.in_ok-take_all.ensures.takes a inside (nothing_taken a) sound good short covers shows in
     let after = (batches_move_touched_rooms items 2 (nothing_taken a) p sound (all_within items good) exact).sound in
-    (p, exact, c.in_ok-reached.ensures.reached a inside p after taken)
+    (p, exact, c.in_ok-reached.ensures.reached a inside p after rooms taken)

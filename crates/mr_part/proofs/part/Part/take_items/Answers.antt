@@ -1,4 +1,4 @@
-use Rattle.std.proofs.Common.{Err, refl, length, map, ap, ◌∙◌, subst, inr}
+use Rattle.std.proofs.Common.{Err, length, map, ap, ◌∙◌, subst, inr}
 use Rattle.std.proofs.lemmas.Result.{err_from_is_err_and}
 use Rattle.std.specs.List.{filter}
 use Rattle.std.specs.Prelude.{flat_map}
@@ -34,7 +34,7 @@ returns-clause-step c = λ good short a sound part.
     let named = ap row_writes (c.deref.ensures.value ∙ kept) ∙ kept_writes a (kept_in (OfItems items) a) in
     let touched = flat_map (rooms_named (length a.commits) (filter (is_inside a items) (kept_in_order a))) items in
     let moving = subst (λ x. x) (λ t. IsMoving c.in_ok-moving.moving (flat_map (rooms_named (commits t) (named t)) items) (commits t) items) c.in_ok-moving.ensures.moving in
-    let right = touched_told a items (is_inside a items) sound (λ w h. h) touched (λ room. refl) in
+    let right = touched_told a items (is_inside a items) sound (λ w h. h) in
     let rows = c.deref-2.ensures.value ∙ kept in
     let undone =
     c.deref-3.ensures.value ∙ c.in_ok-undone.ensures.rows touched items (length a.commits) moving

@@ -1,5 +1,7 @@
-use Rattle.std.proofs.Common.{◌≡◌, ◌-◌, Err, length, map, ap, sym, subst, ◌∙◌, inr, arith}
+use Rattle.std.proofs.Common.{◌≡◌, ◌-◌, ◌||◌, Err, length, map, ap, sym, subst, ◌∙◌, inr, arith}
 use Rattle.std.proofs.lemmas.Result.{err_from_is_err_and}
+use Rattle.std.specs.List.{list_any}
+use Rattle.std.specs.Prelude.{bytes_eq}
 use Rattle.mr_model.proofs.Moved.{batches_move_touched_rooms}
 use Rattle.mr_base.specs.Batches.{item_of}
 use Rattle.mr_part.specs.Answering.{nothing_taken}
@@ -8,7 +10,6 @@ use Rattle.mr_part.specs.Logged.{undo_with}
 use Rattle.mr_part.specs.Moves.{IsMoving, ShowsMoves}
 use Rattle.mr_part.specs.Taken.{ReachedView, is_inside}
 use Rattle.mr_part.specs.Parts.{PartView}
-use Rattle.mr_part.proofs.Growing.{items-grow}
 use Rattle.mr_part.proofs.Moves.{again_picked, undos_picked}
 use Rattle.mr_part.proofs.TakingItems.{all_within}
 use Rattle.mr_part.proofs.ReceivingPart.{part_received, part_refused}
@@ -55,12 +56,10 @@ returns-clause-step c = λ good short a sound part moving undone.
     let turns = c.in_ok-change.ensures.turns items a b (record {
       sound = sound;
       old_is = ap (λ (v : PartView). v.summary) e;
-      known_are = c.deref-2.ensures.value ∙ ap (λ (v : PartView). v.rooms) e;
       board_is = ap (λ (v : PartView). v.board) e;
       moves = m;
-      keeps_rooms = (items-grow items 2 (nothing_taken a) p sound good exact).rooms;
       summary_is = ap (λ (v : ReachedView). v.summary) view ∙ shows.summary;
-      rooms_are = c.deref-3.ensures.value ∙ ap (λ (v : ReachedView). v.rooms) view ∙ shows.rooms;
+      rooms_are = λ t. ap (λ (v : ReachedView). list_any (bytes_eq t) a.rooms || list_any (bytes_eq t) v.rooms) view ∙ shows.rooms t;
       undone_are = undone;
       writes_are = anew;
       was_are = was;
