@@ -1,4 +1,5 @@
-//! Tests of whole replicas over each keeper, with replies worked by hand. README.md says which file has what; nothing stands on this crate.
+//! Tests of whole replicas over each keeper, with replies worked by hand, and the headline over SQLite in memory (`run_in_memory`). README.md says which
+//! file has what; nothing stands on this crate.
 #![tactic(auto)]
 
 #[cfg(test)]
@@ -15,6 +16,7 @@ mod first_files;
 mod firsts;
 #[cfg(test)]
 mod hostile_tests;
+mod in_memory;
 #[cfg(test)]
 mod in_memory_tests;
 #[cfg(test)]
@@ -49,3 +51,5 @@ mod scripts;
 mod stops;
 #[cfg(test)]
 mod without_desk;
+
+pub use in_memory::run_in_memory;
