@@ -1,10 +1,10 @@
 // A list of commands over tables in memory. What is wanted is worked by hand.
 
 use crate::acts::{Act, command};
+use crate::in_memory::run_in_memory;
 use crate::opening::server;
 use crate::same_text::same_text;
 use mr_base::Refusal;
-use mr_memory::run_in_memory;
 use mr_service::{Command, Reply, reply_text};
 use std::alloc::Global;
 

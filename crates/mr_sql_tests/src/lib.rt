@@ -1,4 +1,5 @@
-//! Tests of whole replicas over each keeper, with replies worked by hand. README.md says which file has what; nothing stands on this crate.
+//! Tests of whole replicas over each keeper, with replies worked by hand, and the headline over SQLite in memory (`run_in_memory`). README.md says which
+//! file has what; nothing stands on this crate.
 #![tactic(auto)]
 
 #[cfg(test)]
@@ -13,6 +14,7 @@ mod fault_tests;
 mod first_files;
 #[cfg(test)]
 mod firsts;
+mod in_memory;
 #[cfg(test)]
 mod in_memory_tests;
 #[cfg(test)]
@@ -47,3 +49,5 @@ mod scripts;
 mod stops;
 #[cfg(test)]
 mod without_desk;
+
+pub use in_memory::run_in_memory;

@@ -16,36 +16,54 @@ Quiet k old new r = IsQuiet k.tables k.failures k.is_clean k.is_open k.may_leave
 abbrev pub QuietAbove : {K X : Type 0} → Ghosts K → K → K → Result X Fault → Type 0
 QuietAbove k old new r = IsQuiet k.tables k.failures k.is_clean k.is_open k.may_leave (NeverFails k) old new r
 
--- to read the rows failed, and so does the question
-pub refused : {K X Y : Type 0} (k : Ghosts K) (old at new : K) (e : Fault) → at ≡ old → Quiet {X = X} k at new (Err e) → QuietAbove {X = Y} k old new (Err e)
-refused {Y = Y} k old at new e is q =
-    subst (λ o. QuietAbove {X = Y} k o new (Err e)) is (record {
-      clean = q.clean;
-      opens = q.opens;
-      lasts = λ u o. tt;
-      same = q.same;
-      counts = q.counts;
-      sure = λ never. q.sure never.0;
-      crash = q.crash;
-      settled = q.settled;
-    })
+-- what leaves the tables below leaves them above
+above : {K X : Type 0} (k : Ghosts K) (old new : K) (r : Result X Fault) → Quiet k old new r → QuietAbove k old new r
+above k old new r q = record {
+  clean = q.clean;
+  opens = q.opens;
+  lasts = q.lasts;
+  same = q.same;
+  counts = q.counts;
+  sure = λ never. q.sure never.0;
+  crash = q.crash;
+  settled = q.settled;
+}
 
-followed_at : {K X Y : Type 0} (k : Ghosts K) (old mid new : K) (x : X) (r : Result Y Fault) → QuietAbove k old mid (Ok x) → Quiet k mid new r → QuietAbove k old new r
-followed_at k old mid new x r first next =
+-- a call that failed may be part of another, which fails so
+pub refused_above : {K X Y : Type 0} (k : Ghosts K) (old new : K) (e : Fault) → QuietAbove {X = X} k old new (Err e) → QuietAbove {X = Y} k old new (Err e)
+refused_above k old new e q = record {
+  clean = q.clean;
+  opens = q.opens;
+  lasts = λ u o. tt;
+  same = q.same;
+  counts = q.counts;
+  sure = q.sure;
+  crash = q.crash;
+  settled = q.settled;
+}
+
+-- the keeper below failed, and so does what is asked above
+pub refused : {K X Y : Type 0} (k : Ghosts K) (old at new : K) (e : Fault) → at ≡ old → Quiet {X = X} k at new (Err e) → QuietAbove {X = Y} k old new (Err e)
+refused {X = X} {Y = Y} k old at new e is q =
+    subst (λ o. QuietAbove {X = Y} k o new (Err e)) is (refused_above {X = X} {Y = Y} k at new e (above {X = X} k at new (Err e) q))
+
+-- one call follows on another that answered
+pub both : {K X Y : Type 0} (k : Ghosts K) (old mid new : K) (x : X) (r : Result Y Fault) → QuietAbove k old mid (Ok x) → QuietAbove k mid new r → QuietAbove k old new r
+both k old mid new x r first next =
     record {
       clean = λ u. first.clean (next.clean u);
       opens = λ u o. first.opens (next.clean u) (next.opens u o);
       lasts = λ u o. next.lasts u (first.lasts (next.clean u) o);
       same = λ u o. next.same u o ∙ first.same (next.clean u) (next.opens u o);
       counts = next.counts ∙ ap (failures_after r) first.counts;
-      sure = λ never a h. let fine = never.1 mid in next.sure never.0 a (subst (λ t. Stands t a) (sym (first.same fine.0 fine.1)) h) ∙ first.counts;
+      sure = λ never a h. let fine = never.1 mid in next.sure never a (subst (λ t. Stands t a) (sym (first.same fine.0 fine.1)) h) ∙ first.counts;
       crash = λ u o t left. first.crash (next.clean u) o t (next.crash u (first.lasts (next.clean u) o) t left);
       settled = λ u o before. next.settled u o (first.settled (next.clean u) (next.opens u o) before);
     }
 
 -- the rows in memory were asked for, and then the keeper itself is asked
 pub followed : {K X Y : Type 0} (k : Ghosts K) (old mid at new : K) (x : X) (r : Result Y Fault) → QuietAbove k old mid (Ok x) → at ≡ mid → Quiet k at new r → QuietAbove k old new r
-followed k old mid at new x r first is next = followed_at k old mid new x r first (subst (λ m. Quiet k m new r) is next)
+followed k old mid at new x r first is next = both k old mid new x r first (above k mid new r (subst (λ m. Quiet k m new r) is next))
 
 -- what the keeper itself answers then holds of its tables before both
 pub of_keeper : {K X Y : Type 0} (k : Ghosts K) (P : Tables → Type 0) (old mid at new : K) (x : X) (r : Result Y Fault) → QuietAbove k old mid (Ok x) → at ≡ mid → Quiet k at new r → (k.is_clean new → k.is_open at → P (k.tables at)) → k.is_clean new → k.is_open old → P (k.tables old)
@@ -93,7 +111,11 @@ changed_rows k change old new x before None q was is = tt
 changed_rows k change old new x None (Some t) q was is = absurd is
 changed_rows k change old new x (Some s) (Some t) q was is = λ u o. is ∙ ap (changed change) (was (q.clean u) (q.opens u o)) ∙ sym (q.applied u o)
 
--- the rows in memory are still those of the keeper, once both are changed or the rows are forgotten
-pub changed_both : {K X : Type 0} (k : Ghosts K) (change : ChangeView) (old new : K) (r : Result X Fault) (before after : Option Tables) → Atomic k change old new r → IsMemoryOf k old before → OnOk r (IsMemoryAfter change before after) → OnErr r (after ≡ None) → IsMemoryOf k new after
-changed_both k change old new (Ok x) before after q was made forgotten = changed_rows k change old new x before after q was made
-changed_both k change old new (Err e) before after q was made forgotten = subst (λ m. IsMemoryOf k new m) (sym forgotten) tt
+kept_rows : {K X : Type 0} (k : Ghosts K) (change : ChangeView) (old new : K) (e : Fault) (rows : Option Tables) → Atomic {X = X} k change old new (Err e) → IsMemoryOf k old rows → IsMemoryOf k new rows
+kept_rows k change old new e None q was = tt
+kept_rows k change old new e (Some t) q was = λ u o. was (q.clean u) (q.opens u o) ∙ sym (q.refused u o)
+
+-- the rows in memory are still those of the keeper, once both are changed, or neither is
+pub changed_both : {K X : Type 0} (k : Ghosts K) (change : ChangeView) (old new : K) (r : Result X Fault) (before after : Option Tables) → Atomic k change old new r → IsMemoryOf k old before → OnOk r (IsMemoryAfter change before after) → OnErr r (after ≡ before) → IsMemoryOf k new after
+changed_both k change old new (Ok x) before after q was made kept = changed_rows k change old new x before after q was made
+changed_both k change old new (Err e) before after q was made kept = subst (λ m. IsMemoryOf k new m) (sym kept) (kept_rows k change old new e before q was)

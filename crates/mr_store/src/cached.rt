@@ -14,8 +14,9 @@ use std::marker::Model;
 /// A keeper with its rows in memory, a write-through cache. What is asked is answered from memory, and a change is made in the keeper
 /// first and then in memory: so once its rows are read, the keeper is only written.
 ///
-/// The rows are read at the first question. They are forgotten if a change fails or memory doesn't take it, and if they break
-/// their rules: then the keeper itself is asked, so that it counts the failure. If memory doesn't take the keeper's
+/// The rows are read at the first question. They are forgotten if memory doesn't take a change, and if they break their rules: then the
+/// keeper itself is asked, so that it counts the failure. A change that fails leaves them as they are, but may have shut the keeper: so they
+/// are asked again only once the keeper has answered a small question. If memory doesn't take the keeper's
 /// answer, that call is refused, and from then on the keeper itself is asked, which wants less; so it is asked if memory doesn't take the
 /// rows as maps, or if they aren't in the order of their keys.
 #[derive(Drop)]
@@ -24,6 +25,8 @@ pub struct Cached<K: Keeper> {
     keeper: K,
     memory: Option<Memory>,
     is_passed_over: bool,
+    /// The last change failed, and the keeper has answered nothing since.
+    is_doubted: bool,
 }
 
 impl<K: Keeper> Model for Cached<K> {
@@ -46,6 +49,7 @@ impl<K: Keeper> Cached<K> {
             keeper,
             memory: None,
             is_passed_over: false,
+            is_doubted: false,
         }
     }
 
@@ -58,6 +62,30 @@ impl<K: Keeper> Cached<K> {
 
     /// Takes the rows out of memory, or reads them if they aren't there. It is None if the keeper itself is to be asked.
     fn recall(&mut self) -> Result<Option<Memory>, Fault>
+        ensures quiet { IsQuiet K.tables K.failures K.is_clean K.is_open K.may_leave (NeverFails K.Keeper) self.old self.new result }
+        ensures rows { IfOk result (λ memory. IsMemoryOf K.Keeper self.new memory) }
+    {
+        match self.confirm() {
+            Ok(()) => self.rows(),
+            Err(fault) => Err(fault),
+        }
+    }
+
+    /// After a change that failed, asks the keeper for the rooms: one that the failure shut refuses that, and counts it.
+    fn confirm(&mut self) -> Result<(), Fault>
+        ensures quiet { IsQuiet K.tables K.failures K.is_clean K.is_open K.may_leave (NeverFails K.Keeper) self.old self.new result }
+    {
+        if self.is_doubted {
+            if let Err(fault) = self.keeper.query(&Question::Rooms) {
+                return Err(fault);
+            }
+            self.is_doubted = false;
+        }
+        Ok(())
+    }
+
+    /// The rows in memory, which are read if they aren't there, or None.
+    fn rows(&mut self) -> Result<Option<Memory>, Fault>
         ensures quiet { IsQuiet K.tables K.failures K.is_clean K.is_open K.may_leave (NeverFails K.Keeper) self.old self.new result }
         ensures rows { IfOk result (λ memory. IsMemoryOf K.Keeper self.new memory) }
     {
@@ -81,8 +109,7 @@ impl<K: Keeper> Cached<K> {
     }
 }
 
-/// Makes the change in the keeper first and then in the rows in memory. If the keeper fails to make it, they are forgotten: a
-/// failure may have shut it, and then it is the keeper that has to answer what is asked from now on.
+/// Makes the change in the keeper first and then in the rows in memory. If the keeper fails to make it, they stay.
 fn write_through<K: Keeper>(
     keeper: &mut K,
     memory: &mut Option<Memory>,
@@ -90,11 +117,10 @@ fn write_through<K: Keeper>(
 ) -> Result<(), Fault>
     ensures atomic { IsAtomic K.tables K.failures K.is_clean K.is_open K.may_leave K.never_fails change.now keeper.old keeper.new result }
     ensures made { OnOk result (IsMemoryAfter change.now memory.old memory.new) }
-    ensures forgotten { OnErr result (memory.new ≡ None) }
+    ensures kept { OnErr result (memory.new ≡ memory.old) }
 {
-    let rows = memory.take();
     keeper.apply(change)?;
-    *memory = change_memory(rows, change);
+    *memory = change_memory(memory.take(), change);
     Ok(())
 }
 
@@ -176,6 +202,8 @@ impl<K: Keeper> Keeper for Cached<K> {
     }
 
     fn apply(&mut self, change: &Change) -> Result<(), Fault> {
-        write_through(&mut self.keeper, &mut self.memory, change)
+        let answer = write_through(&mut self.keeper, &mut self.memory, change);
+        self.is_doubted = answer.is_err();
+        answer
     }
 }

@@ -20,6 +20,8 @@ mod desks;
 #[cfg(test)]
 mod early;
 #[cfg(test)]
+mod full;
+#[cfg(test)]
 mod hostile_tests;
 #[cfg(test)]
 mod keepers;

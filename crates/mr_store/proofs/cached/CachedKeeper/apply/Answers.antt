@@ -4,9 +4,9 @@ use Rattle.mr_store.proofs.cached.CachedKeeper.apply.Goals as goal
 pub returns : goal.returns
 returns g c =
     record {
-      atomic = changed_above g.K.Keeper c.args.change.now c.args.self.now c.self.inside.keeper c.write_through.new.keeper c.write_through.result c.self.view_is c.write_through.ensures.atomic;
+      atomic = changed_above g.K.Keeper c.args.change.now c.args.self.now c.self.inside.keeper c.write_through-answer.new.keeper c.write_through-answer.result c.self.view_is c.write_through-answer.ensures.atomic;
     }
 
 pub invariant_of-self : goal.invariant_of-self
 invariant_of-self g c =
-    changed_both g.K.Keeper c.args.change.now c.self.inside.keeper c.write_through.new.keeper c.write_through.result c.self.inside.memory c.write_through.new.memory c.write_through.ensures.atomic c.self.invariant c.write_through.ensures.made c.write_through.ensures.forgotten
+    changed_both g.K.Keeper c.args.change.now c.self.inside.keeper c.write_through-answer.new.keeper c.write_through-answer.result c.self.inside.memory c.write_through-answer.new.memory c.write_through-answer.ensures.atomic c.self.invariant c.write_through-answer.ensures.made c.write_through-answer.ensures.kept

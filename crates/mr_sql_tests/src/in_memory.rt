@@ -1,4 +1,4 @@
-//! Commands to a replica whose tables lie in SQLite in memory.
+//! Commands to a replica whose tables lie in SQLite in memory: the headline with no premise.
 
 ghost use Rattle.std.specs.Prelude.{◌≡◌, ◌⊎◌, map, IfOk, IfErr};
 ghost use Rattle.mr_model.specs.Replica.{opening};

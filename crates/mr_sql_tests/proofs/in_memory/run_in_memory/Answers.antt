@@ -7,7 +7,7 @@ use Rattle.mr_model.specs.Tables.{Stands}
 use Rattle.mr_rows.specs.Database.{tables_in}
 use Rattle.mr_service.specs.Asked.{command_seen, reply_of}
 use Rattle.mr_service.proofs.HeadlineLaws.{headline_kept}
-use Rattle.mr_memory.proofs.memory.run_in_memory.Goals as goal
+use Rattle.mr_sql_tests.proofs.in_memory.run_in_memory.Goals as goal
 
 pub returns : goal.returns
 returns c =
