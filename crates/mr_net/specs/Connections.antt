@@ -14,7 +14,7 @@ use Rattle.mr_net.specs.Printed.{StopsWithText, connection_lines, serving_line}
 -- the request that is read here was served, its reply was written there, and this is its status
 abbrev pub IsServedOver : {K : Type 0} → Ghosts K → K → Option Text → Option Text → Option Text → Option ℕ → K → Type 0
 IsServedOver keeper old known held holds served new =
-    (result : Result ℕ WebFault) × IsRequest keeper old new known result (λ status. status) (EndsServed held holds) (Writes held holds) × (served ≡ result_ok result)
+    (result : Result ℕ WebFault) × IsRequest keeper old new known result (EndsServed held holds) (Writes held holds) × (served ≡ result_ok result)
 
 -- One connection: one request of some reader was served to some writer, and this is the status of its reply
 abbrev pub IsConnection : {K : Type 0} → Ghosts K → K → Option ℕ → K → Type 0

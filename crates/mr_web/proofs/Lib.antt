@@ -8,5 +8,4 @@ pub mod RequestBytes
 pub mod ServedInputs
 pub mod OneRequest
 pub mod SlotLists
-pub mod CommandPerRequest
 pub mod RouteInserts

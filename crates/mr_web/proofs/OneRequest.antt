@@ -1,10 +1,8 @@
 -- One request over a keeper, put together of its parts.
 use Rattle.std.proofs.Common.{inl, inr, refl, ℕ, Option, Result, Ok, Err}
-use Rattle.std.specs.Prelude.{◌≡◌, ◌⊎◌, IfOk}
-use Rattle.mr_model.specs.Http.{Faulty, Runs, response_of}
+use Rattle.mr_model.specs.Http.{Faulty, Response, Runs, response_of}
 use Rattle.mr_model.specs.Replica.{Replica}
 use Rattle.mr_model.specs.Replies.{Reply}
-use Rattle.mr_model.specs.Step.{IsOfMachine}
 use Rattle.mr_model.specs.Tables.{Tables, Stands}
 use Rattle.mr_model.specs.Texts.{Text}
 use Rattle.mr_store.specs.declared.keeper.Keeper.{Ghosts}
@@ -17,15 +15,13 @@ use Rattle.mr_service.specs.Served.{IsServed}
 use Rattle.mr_service.specs.declared.commands.Command.{Command}
 use Rattle.mr_service.proofs.ReplyHalves.{replied_by}
 use Rattle.mr_web.specs.RequestAsks.{Asks}
-use Rattle.mr_web.specs.RequestServed.{IsRequest}
-use Rattle.mr_web.specs.RequestSteps.{IsServable}
+use Rattle.mr_web.specs.RequestServed.{AsksOnce, IsOfResponse, IsRequest}
 use Rattle.mr_web.specs.Views.{AnswersTo, Settles, StopsWith, IsAnswerOf, response_to}
 use Rattle.mr_web.specs.RepliesWritten.{IsAnswer, MakesReply, Responds}
 use Rattle.mr_web.specs.declared.rejections.Stop.{Stop}
 use Rattle.mr_web.specs.declared.rejections.Stop.TheVariants as why
 use Rattle.mr_web.specs.declared.replies.Answer.{Answer}
 use Rattle.mr_web.proofs.ServedInputs.{answers_stopped, served_by, served_told}
-use Rattle.mr_web.proofs.CommandPerRequest.{leaves_after, open_after, open_still, stands_after}
 
 -- the answer is made of the reply, unless memory ran out
 abbrev pub IsMade : Reply → Result Answer ReadFault → Type 0
@@ -44,11 +40,6 @@ made_answers k old new command reply (Err fault.Read) served made input asks c o
 made_answers k old new command reply (Err fault.Memory) served made input asks c o a stands =
     let s = served.step c o a stands in
     inr (_, _, served_by input a s.0 (k.tables new) (command_seen command) reply asks s.1 s.2)
-
-made_lasts : (reply : Reply) (result : Result Answer ReadFault) (clean before after : Type 0) → IsMade reply result
-    → (clean → before → IsOfMachine reply ⊎ after) → IfOk result (λ answer. clean → before → (answer.status ≡ 503) ⊎ after)
-made_lasts reply (Ok answer) clean before after made lasts = open_after reply answer.status clean before after made.1 lasts
-made_lasts reply (Err e) clean before after made lasts = tt
 
 -- ---- what is answered, whether or not a failure has shut the keeper
 
@@ -70,57 +61,73 @@ stopped_answer k at (why.Rejected r) (Err f) tells input asks = absurd tells
 stopped_answer k at (why.Fault f) (Ok answer) tells input asks = absurd tells
 stopped_answer k at (why.Fault f) (Err g) tells input asks = tt
 
+-- ---- what was asked, once
+
+once_asked : {K : Type 0} (k : Ghosts K) (old new : K) (command : Command) (reply : Reply) (result : Result Answer ReadFault)
+    → IsServed k old new (command_seen command) reply → IsMade reply result
+    → (known : Option Text) → OfInput known (λ input. Settles input (Ok command)) → AsksOnce k old new known MakesReply result
+once_asked k old new command reply (Ok answer) served made known asks = inr (command_seen command, reply, served, asks, made)
+once_asked k old new command reply (Err fault.Read) served made known asks = absurd made
+once_asked k old new command reply (Err fault.Memory) served made known asks = inr (command_seen command, reply, served, asks, tt)
+
+-- a text that answers what is at fault with the input
+abbrev pub IsOfFault : Text → Text → ℕ → Type 0
+IsOfFault input output status = (f : Response) × Asks input (Faulty f) × IsOfResponse f output status
+
+fault_made : (s : Stop) (result : Result Answer ReadFault) → StopsWith s result → (input : Text) → Settles input (Err s)
+    → MakesReply (IsOfFault input) result
+fault_made (why.Rejected r) (Ok answer) tells input asks = (response_to r, asks, tells)
+fault_made (why.Rejected r) (Err f) tells input asks = absurd tells
+fault_made (why.Fault f) (Ok answer) tells input asks = absurd tells
+fault_made (why.Fault f) (Err g) tells input asks = tt
+
+once_on : {K X Y E F : Type 0} (k : Ghosts K) (old new : K) (known : Option Text) (first : Result X E) (result : Result Y F)
+    (G : (Text → ℕ → Type 0) → Result X E → Type 0) (H : (Text → ℕ → Type 0) → Result Y F → Type 0) → AsksOnce k old new known G first
+    → ((IsOne : Text → ℕ → Type 0) → G IsOne first → H IsOne result) → AsksOnce k old new known H result
+once_on k old new known first result G H (inl (same, told)) gives = inl (same, of_input_map known _ _ (λ input. gives (IsOfFault input)) told)
+once_on k old new known first result G H (inr (command, reply, served, asks, given)) gives =
+    inr (command, reply, served, asks, gives (IsOfResponse (response_of reply)) given)
+
 -- ---- requests
 
 -- the command that the input asks was given to the replica
 pub request_served : {K : Type 0} (k : Ghosts K) (old new : K) (command : Command) (reply : Reply) (result : Result Answer ReadFault)
     → IsServed k old new (command_seen command) reply → IsMade reply result
-    → (known : Option Text) → OfInput known (λ input. Settles input (Ok command)) → IsServable (command_seen command)
-    → IsRequest k old new known result (λ answer. answer.status) AnswersTo MakesReply
-request_served k old new command reply result served made known asks servable =
+    → (known : Option Text) → OfInput known (λ input. Settles input (Ok command)) → IsRequest k old new known result AnswersTo MakesReply
+request_served k old new command reply result served made known asks =
     record {
       clean = served.clean;
       opens = served.opens;
-      settled = served.settled;
       serves = of_input_map known _ _ (made_answers k old new command reply result served made) asks;
       answered = of_input_map known _ _ (made_answer k old new command reply result served made) asks;
-      steps = λ c o. stands_after (k.tables old) (k.tables new) (command_seen command) reply servable (served.step c o);
-      crash = λ c o. leaves_after (k.may_leave old) (k.may_leave new) (k.tables old) (command_seen command) servable (served.crash c o);
-      lasts = made_lasts reply result (k.is_clean new) (k.is_open old) (k.is_open new) made served.lasts;
+      once = once_asked k old new command reply result served made known asks;
     }
 
 -- the request asks no command, or wasn't read
 pub request_stopped : {K : Type 0} (k : Ghosts K) (at : K) (known : Option Text) (stop : Stop) (result : Result Answer ReadFault)
-    → StopsWith stop result → OfInput known (λ input. Settles input (Err stop)) → IsRequest k at at known result (λ answer. answer.status) AnswersTo MakesReply
+    → StopsWith stop result → OfInput known (λ input. Settles input (Err stop)) → IsRequest k at at known result AnswersTo MakesReply
 request_stopped k at known stop result stops asks =
     record {
       clean = λ c. c;
       opens = λ c o. o;
-      settled = λ c o s. s;
       serves = of_input_map known _ _ (λ input is c o a stands. answers_stopped input a (k.tables at) stop result stops is stands) asks;
       answered = of_input_map known _ _ (stopped_answer k at stop result stops) asks;
-      steps = λ c o a stands. (a, stands, inl refl);
-      crash = λ c o t leaves. inl leaves;
-      lasts = open_still result (k.is_clean at) (k.is_open at);
+      once = inl (refl, of_input_map known _ _ (fault_made stop result stops) asks);
     }
 
 -- what is made of the result leaves the keeper as it is
 pub request_on : {K X Y E F : Type 0} (k : Ghosts K) (old new : K) (known : Option Text) (first : Result X E) (result : Result Y F)
-    (first_status : X → ℕ) (status : Y → ℕ) (P : Text → Tables → Tables → Replica → Result X E → Type 0)
+    (P : Text → Tables → Tables → Replica → Result X E → Type 0)
     (Q : Text → Tables → Tables → Replica → Result Y F → Type 0) (G : (Text → ℕ → Type 0) → Result X E → Type 0)
-    (H : (Text → ℕ → Type 0) → Result Y F → Type 0) → IsRequest k old new known first first_status P G
-    → ((L : ℕ → Type 0) → IfOk first (λ x. L (first_status x)) → IfOk result (λ y. L (status y)))
+    (H : (Text → ℕ → Type 0) → Result Y F → Type 0) → IsRequest k old new known first P G
     → ((input : Text) (before after : Tables) (a : Replica) → P input before after a first → Q input before after a result)
     → ((IsOne : Text → ℕ → Type 0) → G IsOne first → H IsOne result)
-    → IsRequest k old new known result status Q H
-request_on k old new known first result first_status status P Q G H request lasts answers gives =
+    → IsRequest k old new known result Q H
+request_on k old new known first result P Q G H request answers gives =
     record {
       clean = request.clean;
       opens = request.opens;
-      settled = request.settled;
       serves = of_input_map known _ _ (λ input is c o a stands. answers input (k.tables old) (k.tables new) a (is c o a stands)) request.serves;
       answered = of_input_map known _ _ (λ input. gives (IsAnswer k old new input)) request.answered;
-      steps = request.steps;
-      crash = request.crash;
-      lasts = lasts (λ n. k.is_clean new → k.is_open old → (n ≡ 503) ⊎ k.is_open new) request.lasts;
+      once = once_on k old new known first result G H request.once gives;
     }

@@ -1,5 +1,5 @@
 -- A reader of the contracts trusts RequestAsks, Cancellations, JsonBodies, RequestLaw, RequestRead, Routes, RequestServed,
--- RequestSteps, Submissions, Views, RouteViews and RepliesWritten. The others, Plain and ReplyHeads, serve private clauses and proofs
+-- Submissions, Views, RouteViews and RepliesWritten. The others, Plain and ReplyHeads, serve private clauses and proofs
 -- alone.
 pub mod Cancellations
 pub mod JsonBodies
@@ -10,7 +10,6 @@ pub mod RequestAsks
 pub mod RequestLaw
 pub mod RequestRead
 pub mod RequestServed
-pub mod RequestSteps
 pub mod Routes
 pub mod RouteViews
 pub mod Submissions

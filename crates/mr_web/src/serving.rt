@@ -1,4 +1,4 @@
-ghost use Rattle.std.specs.Prelude.{◌≡◌, ◌≤◌, [], Ok, Option, IfOk, IfErr, OnOk, length, drop};
+ghost use Rattle.std.specs.Prelude.{◌≡◌, ◌≤◌, [], Ok, Option, IfErr, OnOk, length, drop};
 ghost use Rattle.std.specs.Io.KnownBytes.{Keeps};
 ghost use Rattle.mr_model.specs.Texts.{Text};
 ghost use Rattle.mr_model.specs.Http as model;
@@ -10,7 +10,6 @@ ghost use Rattle.mr_http.specs.declared.faults.WebFault.TheVariants.{Read as fau
 ghost use Rattle.mr_web.specs.RequestAsks as spec;
 ghost use Rattle.mr_web.specs.RequestRead.{ReadsOneRequest, UnlessFault};
 ghost use Rattle.mr_web.specs.RequestServed.{IsRequest};
-ghost use Rattle.mr_web.specs.RequestSteps.{IsServable};
 ghost use Rattle.mr_web.specs.Views.{AnswersTo, EndsServed, GivesView, IsServeFault, Settles, StopsWith};
 ghost use Rattle.mr_web.specs.RouteViews.{route_view};
 ghost use Rattle.mr_web.specs.RepliesWritten.{MakesReply, Writes};
@@ -76,7 +75,6 @@ fn body_of(buffer: &[u8], start: usize, count: usize) -> Result<&[u8], Stop>
 fn request_in<R: Read>(alloc: Global, reader: &mut R, buffer: &mut Vec<u8>) -> Result<Command, Stop>
     requires { buffer.old.items ≡ [] }
     ensures settles { OfInput (R.remaining reader.old) (λ input. Settles input result) }
-    ensures servable { IfOk result (λ command. IsServable (command_view command)) }
     ensures reads { UnlessFault (ReadsOneRequest (R.remaining reader.old) (R.remaining reader.new)) result }
 {
     let Some(start) = read_request_head(reader, buffer)? else {
@@ -91,7 +89,6 @@ fn request_in<R: Read>(alloc: Global, reader: &mut R, buffer: &mut Vec<u8>) -> R
 /// Reads one request: its command, or the first check that it fails.
 fn request_from<R: Read>(alloc: Global, reader: &mut R) -> Result<Command, Stop>
     ensures settles { OfInput (R.remaining reader.old) (λ input. Settles input result) }
-    ensures servable { IfOk result (λ command. IsServable (command_view command)) }
     ensures reads { UnlessFault (ReadsOneRequest (R.remaining reader.old) (R.remaining reader.new)) result }
 {
     let mut buffer = Vec::new(alloc);
@@ -104,8 +101,8 @@ fn answer_command<K: Keeper>(
     command: &Command,
     service: &mut Service<K>,
 ) -> Result<Answer, ReadFault>
-    ensures served { (known : Option Text) → OfInput known (λ input. Settles input (Ok command.now)) → IsServable (command_view command.now)
-        → IsRequest K.Keeper service.old service.new known result (λ answer. answer.status) AnswersTo MakesReply }
+    ensures served { (known : Option Text) → OfInput known (λ input. Settles input (Ok command.now))
+        → IsRequest K.Keeper service.old service.new known result AnswersTo MakesReply }
     ensures memory { IfErr result (λ e. e ≡ memory_fault) }
 {
     let reply = service.ask(command);
@@ -130,7 +127,7 @@ fn answer_one<R: Read, K: Keeper>(
     reader: &mut R,
     service: &mut Service<K>,
 ) -> Result<Answer, ReadFault>
-    ensures served { IsRequest K.Keeper service.old service.new (R.remaining reader.old) result (λ answer. answer.status) AnswersTo MakesReply }
+    ensures served { IsRequest K.Keeper service.old service.new (R.remaining reader.old) result AnswersTo MakesReply }
     ensures read { IfErr result (λ e. e ≡ read_fault → service.new ≡ service.old) }
     ensures reads { OnOk result (ReadsOneRequest (R.remaining reader.old) (R.remaining reader.new)) }
 {
@@ -143,7 +140,7 @@ fn answer_one<R: Read, K: Keeper>(
 /// Reads one request, serves it, writes its reply and answers the reply's status. What follows the request is passed over,
 /// though up to 511 bytes behind the head may have been read. With the fault `Read` nothing was done or written; with `Memory` nothing was written, and the
 /// command may have been done; with `Write` a prefix of the reply was written, and the command stands as done or refused. No
-/// other fault comes. Whatever the reader gives, at most one command is done, and that one which some route gives. After every
+/// other fault comes. Whatever the reader gives, at most one command is done, and that one which the request asks. After every
 /// reply but one of 503 an open keeper is open.
 pub fn serve_one<R: Read, W: Write, K: Keeper>(
     alloc: Global,
@@ -151,7 +148,7 @@ pub fn serve_one<R: Read, W: Write, K: Keeper>(
     writer: &mut W,
     service: &mut Service<K>,
 ) -> Result<u16, WebFault>
-    ensures served { IsRequest K.Keeper service.old service.new (R.remaining reader.old) result (λ status. status)
+    ensures served { IsRequest K.Keeper service.old service.new (R.remaining reader.old) result
         (EndsServed (W.contents writer.old) (W.contents writer.new)) (Writes (W.contents writer.old) (W.contents writer.new)) }
     ensures read { IfErr result (λ e. e ≡ fault_read → Keeps (W.contents writer.old) (W.contents writer.new) × (service.new ≡ service.old)) }
     ensures fault { IfErr result IsServeFault }

@@ -9,13 +9,11 @@ use Rattle.mr_http.proofs.HeadLemmas.{head_more, head_short}
 use Rattle.mr_web.specs.RequestAsks.{asked_by, body_in}
 use Rattle.mr_web.specs.RequestRead.{ReadsOneRequest, UnlessFault}
 use Rattle.mr_web.specs.Views.{asked_view, FailsAs, Settles}
-use Rattle.mr_web.specs.RouteViews.{route_view}
 use Rattle.mr_service.specs.declared.commands.Command.{Command}
 use Rattle.mr_web.specs.declared.rejections.Stop.{Stop}
 use Rattle.mr_http.proofs.Known.{of_input_unit}
 use Rattle.mr_web.proofs.RequestBytes.{head_read, body_read, unless_fault}
 use Rattle.mr_web.proofs.ServedInputs.{settles_none, settles_result, settles_head_stop, settles_body_stop}
-use Rattle.mr_web.proofs.CommandPerRequest.{gives_servable}
 use Rattle.mr_web.proofs.serving.request_in.Goals as goal
 
 pub returns-clause-settles : goal.returns-clause-settles
@@ -117,10 +115,6 @@ returns-in_err-fill_to-clause-settles g c =
     let told = err_from_is_err_and c.from_residual-in_err-fill_to.result c.from_residual-in_err-fill_to.ensures.1 in
     let S : Result Command Stop → Type 0 = λ r. OfInput known (λ input. Settles input r) in
     subst S (sym (told.1 ∙ ap Err told.2)) (of_input_unit known)
-
-pub returns-clause-servable : goal.returns-clause-servable
-returns-clause-servable g c =
-    gives_servable (route_view c.in_ok-asked.asked.route) c.in_ok-body.body.now c.command_of.result c.command_of.ensures
 
 -- ---- how far the reader was read
 

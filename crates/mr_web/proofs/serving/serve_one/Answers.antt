@@ -11,7 +11,6 @@ use Rattle.mr_web.specs.RequestRead.{ReadsOneRequest}
 use Rattle.mr_web.specs.RequestServed.{IsRequest}
 use Rattle.mr_web.specs.Views.{AnswersTo, EndsServed, IsServeFault, bytes_view}
 use Rattle.mr_web.specs.RepliesWritten.{MakesReply, Writes}
-use Rattle.mr_web.specs.declared.replies.Answer.{Answer}
 use Rattle.mr_web.proofs.ServedInputs.{ends_fault, none_written, serve_faults}
 use Rattle.mr_web.proofs.OneRequest.{request_on}
 use Rattle.mr_web.proofs.serving.serve_one.Goals as goal
@@ -25,10 +24,10 @@ returns-in_err-answer-clause-served g c =
     let held = g.W.Write.contents c.args.writer.now in
     let f = c.in_err-answer.field-0.0 in
     let told = err_from_is_err_and c.from_residual.result c.from_residual.ensures.1 in
-    let P : Result ℕ WebFault → Type 0 = λ r. IsRequest g.K.Keeper old new known r (λ n. n) (EndsServed held held) (Writes held held) in
+    let P : Result ℕ WebFault → Type 0 = λ r. IsRequest g.K.Keeper old new known r (EndsServed held held) (Writes held held) in
     subst P (sym (told.1 ∙ ap Err told.2))
-    (request_on g.K.Keeper old new known (Err f) (Err (web_fault f)) (λ (x : Answer). x.status) (λ n. n) AnswersTo (EndsServed held held) MakesReply (Writes held held)
-    c.in_err-answer.ensures.served (λ L u. tt) (λ input before after a. ends_fault input before after a held f) (λ IsOne u. none_written held f IsOne))
+    (request_on g.K.Keeper old new known (Err f) (Err (web_fault f)) AnswersTo (EndsServed held held) MakesReply (Writes held held)
+    c.in_err-answer.ensures.served (λ input before after a. ends_fault input before after a held f) (λ IsOne u. none_written held f IsOne))
 
 -- a front of the reply was written
 pub returns-in_err-send-clause-served : goal.returns-in_err-send-clause-served
@@ -43,10 +42,10 @@ returns-in_err-send-clause-served g c =
     let front = c.send.ensures.front in
     let A : List ℕ → Type 0 = λ l. Appends held holds (take front.0 l) in
     let appends = subst A c.as_slice.ensures front.2 in
-    let P : Result ℕ WebFault → Type 0 = λ r. IsRequest g.K.Keeper old new known r (λ n. n) (EndsServed held holds) (Writes held holds) in
+    let P : Result ℕ WebFault → Type 0 = λ r. IsRequest g.K.Keeper old new known r (EndsServed held holds) (Writes held holds) in
     subst P (sym (told.1 ∙ ap Err (told.2 ∙ c.in_err-send.ensures.fault)))
-    (request_on g.K.Keeper old new known (Ok answer) (Err Write) (λ (x : Answer). x.status) (λ n. n) AnswersTo (EndsServed held holds) MakesReply (Writes held holds)
-    c.in_ok-answer.ensures.served (λ L u. tt) (λ input before after a is. (bytes_view answer.bytes, answer.status, front.0, is, appends))
+    (request_on g.K.Keeper old new known (Ok answer) (Err Write) AnswersTo (EndsServed held holds) MakesReply (Writes held holds)
+    c.in_ok-answer.ensures.served (λ input before after a is. (bytes_view answer.bytes, answer.status, front.0, is, appends))
     (λ IsOne is. (bytes_view answer.bytes, answer.status, front.0, is, appends)))
 
 -- the whole reply was written
@@ -58,7 +57,7 @@ returns-clause-served g c =
     let A : List ℕ → Type 0 = λ l. Appends held holds l in
     let appends = subst A c.as_slice.ensures c.in_ok-send.ensures.ok in
     request_on g.K.Keeper c.args.service.now c.answer_one.new.service (g.R.Read.remaining c.args.reader.now) (Ok answer) (Ok answer.status)
-    (λ (x : Answer). x.status) (λ n. n) AnswersTo (EndsServed held holds) MakesReply (Writes held holds) c.in_ok-answer.ensures.served (λ L l. l)
+    AnswersTo (EndsServed held holds) MakesReply (Writes held holds) c.in_ok-answer.ensures.served
     (λ input before after a is. (bytes_view answer.bytes, is, appends)) (λ IsOne is. (bytes_view answer.bytes, is, appends))
 
 -- ---- which faults come
