@@ -1,7 +1,7 @@
 // What the rooms were used for, of the office's figures.csv: hours booked of hours open, by room, by day of the week and by month, with what
 // found no room and what merges did. The bars are drawn here; nothing comes from anywhere else.
 import { byId, el } from './texts.js';
-import { rowsOf } from './csv.js';
+import { rowsOf } from './table.js';
 
 const COUNTS = ['open', 'booked', 'outside', 'bookings', 'no_room', 'moved', 'lost'];
 const HEADS = ['Booked', 'Open', 'Part', '', 'Outside the open hours', 'Bookings', 'Without a room', 'Moved by a merge', 'Lost by a merge'];
