@@ -13,7 +13,7 @@ export function doorOf(room) {
 
 export const askBook = (room, day, time, length) => ask('/door/' + room + '/book/' + day + '/' + time + '/' + length, '');
 export const askCancel = (room, id) => ask('/door/' + room + '/cancel/' + id, '');
-export const markHere = (room, id) => putFile('/door/' + room + '/here/' + id);
+export const markHere = (room, id) => putFile('/door/' + room + '/here/' + id, '');
 
 /** The ids of the requests of this room that somebody has checked in to; null where nobody can say. */
 export async function askHere(room) {

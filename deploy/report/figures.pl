@@ -42,6 +42,8 @@ sub count_room {
     my ($room, $hours, $news, $count) = @_;
     my $calendar = ask('calendar', $room, 'full');
     my $errors = ask('errors', $room);
+    # a room that stands on the page alone
+    return if $calendar =~ /\Arefused 7 /;
     die "the calendar of $room can't be read\n" unless $calendar =~ /\A\Q$room\E full\n/ and $errors =~ /\A\Q$room\E errors\n/;
     while ($calendar =~ /^($DAY) $HOURS [CT] /mg) {
         my ($day, $start, $stop) = ($1, 60 * $2 + $3, 60 * $4 + $5);

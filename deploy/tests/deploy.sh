@@ -293,6 +293,7 @@ deploy_proxy() {
     deploy_marks
     deploy_addresses
     deploy_groups
+    deploy_feeds
     through 'the position of an office' 200 offices /position
     is 'who called' "$(ls "$ROOMS_CALENDARS/west/callers")" offices
     held 'and in the log of all' grep -q ' offices .*"GET /position HTTP/1.1" 200 ' "$deploy_scratch/access.log"
@@ -519,7 +520,8 @@ deploy_stretches() {
     through 'a calendar' 200 readers /oak.ics
     is 'it says what it is' "$(sed -n 's/^content-type: *//Ip' "$deploy_scratch/head" | tr -d '\r')" 'text/calendar; charset=utf-8'
     body 'the file as it was written' "$(cat "$ROOMS_CALENDARS/west/oak.ics")"
-    deploy_feeds
+    through 'the calendar of all rooms' 200 readers /all_rooms.ics
+    body 'as it was written' "$(cat "$ROOMS_CALENDARS/west/all_rooms.ics")"
     through 'a file beside the calendars' 404 readers /.seen
     held 'the called office knows who called' until_held 10 grep -q '"peers":\[\],"callers":\[{"name":"offices","met":"20' "$ROOMS_CALENDARS/west/status.json"
     held 'the calling office knows whom it met' until_held 10 grep -q '"peers":\[{"name":"west","met":"20[^"]*","fault":null}\],"callers":\[' "$ROOMS_CALENDARS/east/status.json"
@@ -543,8 +545,9 @@ deploy_stretches() {
 
 # an address without a password, for calendars alone; and what is asked for again costs little
 deploy_feeds() {
-    local office=$deploy/systemd/rooms-office address old size
-    through 'the calendar of all rooms' 200 readers /all_rooms.ics
+    local office=$deploy/systemd/rooms-office address old size room
+    for room in oak all_rooms; do seq 1000 > "$ROOMS_CALENDARS/west/$room.ics"; done
+    through 'a calendar of all rooms' 200 readers /all_rooms.ics
     size=$(wc -c < "$deploy_scratch/body")
     through 'it is not for everybody' 401 '' /all_rooms.ics
     through 'a calendar that is the same' 304 readers /oak.ics -H "If-Modified-Since: $(date -u -r "$ROOMS_CALENDARS/west/oak.ics" +'%a, %d %b %Y %H:%M:%S GMT')"
@@ -568,6 +571,7 @@ deploy_feeds() {
     through 'the new one' 200 '' "/${address#https://*/}"
     is 'an end of it' "$("$office" secret west none)" 'west has no secret address any more'
     through 'the address then' 404 '' "/${address#https://*/}"
+    rm "$ROOMS_CALENDARS"/west/*.ics
 }
 
 # ---- calendars to subscribe to

@@ -112,18 +112,19 @@ sys.exit(names != {"svg", "rect", "text"})' "$folder/figures.svg"
     held 'the figures once more' "$report" --write west "$west"
     is 'what is the same is not written' "$(stat -c %i "$folder"/figures.*)" "$times"
     is 'a month by hand' "$("$report" west 2027-04 2027-04 | grep -c ,2027-04,)" 14
+    is 'a room on the page alone' "$(sed -i 's/{"seats": 4,/{"name": "yew"}, &/' "$ROOMS_ETC/west.rooms.json" && "$report" west 2027-03 2027-03 | grep -c '^yew,.*,0,0,0,0,0,0')" 7
     is 'a word that is no month' "$("$report" west 2027-4 x 2>&1; echo $?)" \
         'rooms-report: the words are: NAME [FROM TO], --svg NAME [FROM TO], or --write NAME DATABASE
 2'
     is 'an office that is not there' "$("$report" south 2>&1)" "rooms-report: $ROOMS_ETC/south.rooms.json can't be read"
-    is 'days that are open' "$(sed -i 's/"from"/"days": ["Saturday"], &/' "$ROOMS_ETC/west.rooms.json" && "$report" west 2027-03 2027-03 | grep -c ',Saturday,2400,')" 2
+    is 'days that are open' "$(sed -i 's/"from"/"days": ["Saturday"], &/' "$ROOMS_ETC/west.rooms.json" && "$report" west 2027-03 2027-03 | grep -c ',Saturday,2400,')" 3
 }
 
 run_report() {
     if missing 'figures' curl openssl nginx flock perl python3; then return; fi
     begin_looking
     deploy_report
-    sed -i 's/"days": \["Saturday"\], //' "$ROOMS_ETC/west.rooms.json"
+    sed -i 's/"days": \["Saturday"\], //; s/{"name": "yew"}, //' "$ROOMS_ETC/west.rooms.json"
     through 'the table' 200 readers /figures.csv
     is 'what it is' "$(sed -n 's/^content-type: *//Ip' "$deploy_scratch/head" | tr -d '\r')" 'text/csv; charset=utf-8'
     through 'the drawing' 200 readers /figures.svg
