@@ -30,7 +30,7 @@ sub slot_words {
 my %heads = (booked => 'Booked, not final yet', final => 'Final', moved => 'Moved', lost => 'No room any more', found => 'It has a room', cancelled => 'Cancelled',
     without => 'No room, for good');
 
-# The slot that a mail is about.
+# The slot that a mail is about; nothing, and no title, where it was cancelled before the service saw it.
 sub slot_of_news {
     my ($news) = @_;
     my ($slot) = grep { /^\d/ } @$news{qw(place before wish)};
@@ -39,7 +39,7 @@ sub slot_of_news {
 
 sub subject_of {
     my ($news) = @_;
-    return "$heads{ $news->{kind} }: $news->{title}, $news->{label}, " . slot_words(slot_of_news($news));
+    return "$heads{ $news->{kind} }: " . join ', ', grep { length } $news->{title}, $news->{label}, map { /./ ? slot_words($_) : '' } slot_of_news($news);
 }
 
 # Whose cancel it was: the number in front of an id is that of the office.
@@ -76,7 +76,7 @@ sub text_lines {
     my ($news) = @_;
     my $slot = slot_of_news($news);
     my $is_there = $news->{place} =~ /^\d/;
-    return ($news->{title}, $news->{label} . ($slot ? ', ' . ($is_there ? '' : $slot eq $news->{before} ? 'before: ' : 'asked for: ') . slot_words($slot) : '')
+    return (length $news->{title} ? $news->{title} : "Request $news->{id}", $news->{label} . ($slot ? ', ' . ($is_there ? '' : $slot eq $news->{before} ? 'before: ' : 'asked for: ') . slot_words($slot) : '')
         . ($slot && $news->{zone} ? " ($news->{zone})" : ''), '', join(' ', what_became($news), what_may_be($news)), '',
         "Request $news->{id}, $news->{office}. This address was given for it, and gets what becomes of it, until its day is over. If you know nothing of it, tell the desk.");
 }

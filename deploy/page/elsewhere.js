@@ -15,7 +15,7 @@ function hide(names, place, status) {
   showElsewhere(place, status);
 }
 
-const nameOf = ({ room, label, office }) => (label === room ? room : label + ' (' + room + ')') + (office ? ', of ' + office : '');
+const nameOf = ({ label, office }) => label + (office ? ', of ' + office : '');
 const listOf = rooms => rooms.map(nameOf).join('; ');
 
 /** The rooms in words: what may be done here with those that came by an exchange, and with those that no exchange brought yet. */

@@ -220,7 +220,7 @@ deploy_addresses() {
     through 'an address is not read' 403 bookers "$path"
     through 'nor by one who reads' 403 readers "$path"
     through 'nor where they lie' 404 readers /mail/
-    through 'nor by another way' 404 readers /told/../mail/1-17
+    through 'nor by another way' 403 readers /told/../mail/1-17 --path-as-is
     through 'nor beside the calendars' 404 readers /mail/1-17.ics
     is 'it is there' "$(cat "$ROOMS_CALENDARS/west/mail/1-17")" bert@localhost
     is 'for the service, whose folder nobody else may read' "$(stat -c %a "$ROOMS_CALENDARS/west/mail/1-17") $(grep -oE '2730 .*/mail$' "$deploy/systemd/rooms-serve@.service")" \
@@ -458,7 +458,11 @@ has_asked() { [ "$(asked_positions)" -ge "$1" ]; }
 
 # elsewhere_of OFFICE PEER..: what its page is told of rooms that it doesn't show
 elsewhere_of() {
-    perl "$ROOMS_SHARE/news/status.pl" "$1" "$ROOMS_STATE/$1/rooms.db" 60 "${@:2}"
+    local seen=$deploy_scratch/seen
+    rm -rf "$seen"
+    mkdir "$seen"
+    cp "$ROOMS_STATE/$1"/rooms.db* "$seen"
+    perl "$ROOMS_SHARE/news/status.pl" "$1" "$seen/rooms.db" 60 "${@:2}"
     grep -o '"elsewhere":.*' "$ROOMS_CALENDARS/$1/status.json"
 }
 

@@ -93,6 +93,13 @@ It moved. Before, it had Tue 2030-03-05, 16:00 to 17:00. It is not final yet: un
     sed -i 's/2030-03-04/2020-03-04/g' "$ROOMS_STATE/north/mail/records" "$ROOMS_STATE/north/news"
     write_mails
     is 'or its day is over' "$(cut -f 1,2 "$ROOMS_STATE/north/mail/records" | tr '\t\n' '  ')" 'own 2 '
+    "$program" book "$north" oak 60 $day 20:00 'Gone at once' > /dev/null
+    "$program" cancel "$north" oak 2-9 > /dev/null
+    address 2-9 anna@localhost
+    mail_round
+    is 'what was cancelled before a round saw it' "$(new_mails -t | head -n 3)" 'anna@localhost: Cancelled: Oak, 2nd floor | -
+Request 2-9
+Oak, 2nd floor'
 }
 
 # ---- what may not get into a mail
