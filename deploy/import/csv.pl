@@ -1,4 +1,4 @@
-# The lines of a CSV file as wishes, as at the page (csv.js). Its first line names the columns; commas, semicolons or tabs stand between the cells.
+# The lines of a CSV file as wishes, as at the page (readcsv.js). Its first line names the columns; commas, semicolons or tabs stand between the cells.
 use strict;
 use utf8;
 

@@ -1,4 +1,4 @@
-# The events of a calendar file (iCalendar, RFC 5545) as wishes, by the clocks of the rooms, as at the page (ical.js).
+# The events of a calendar file (iCalendar, RFC 5545) as wishes, by the clocks of the rooms, as at the page (readical.js).
 use strict;
 use utf8;
 

@@ -1,6 +1,6 @@
 // Groups: requests that were asked for together, kept at the office as a file each, so that every desk can look at them and cancel them as
 // one. A group is named by its last day and some letters, by which the office's service knows when to take it away.
-import { Fault, askFile, putMark } from './office.js';
+import { Fault, askFile, putText } from './office.js';
 import { isDay } from './texts.js';
 
 const NAME = /^(\d{4}-\d\d-\d\d)\.[a-z0-9]{8}$/, ID = /^[1-9][0-9]?-[1-9][0-9]{0,8}$/, ROOM = /^[a-z0-9-]{1,16}$/;
@@ -43,7 +43,7 @@ export async function keepGroup({ name, title, made, items }) {
     ({ room, day, start, length, title: words, ...key ? { key } : {}, ...id ? { id } : {}, state }));
   if (!asked.length) return '';
   try {
-    await putMark('/groups/put/' + name, JSON.stringify({ title, made, items: asked }));
+    await putText('/groups/put/' + name, JSON.stringify({ title, made, items: asked }));
     return '';
   } catch (fault) {
     if (!(fault instanceof Fault)) throw fault;

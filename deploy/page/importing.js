@@ -1,9 +1,9 @@
 // A file of bookings, as a CSV or a calendar, becomes a plan: each line or event with its room and a key by which a second run knows it.
 import { office } from './office.js';
-import { wishesOfCsv } from './csv.js';
+import { wishesOfCsv } from './readcsv.js';
 import { textOf } from './encodings.js';
 import { askedKeys, contentOf } from './groups.js';
-import { wishesOfIcal } from './ical.js';
+import { wishesOfIcal } from './readical.js';
 import { itemOf } from './plan.js';
 import { roomWritten } from './written.js';
 

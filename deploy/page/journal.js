@@ -4,12 +4,14 @@ const RUN = 'rooms.many', NOW = 'rooms.many.now', LOCK = 'rooms.many';
 let since = { sending: -1, results: [] };
 
 const read = name => { try { return JSON.parse(localStorage.getItem(name)); } catch { return null; } };
-const write = (name, value) => { try { localStorage.setItem(name, JSON.stringify(value)); } catch { /* then it lasts as long as this page */ } };
+/** Whether there was room for it; else it lasts as long as this page. */
+function write(name, value) {
+  try { localStorage.setItem(name, JSON.stringify(value)); return true; } catch { return false; }
+}
 
-/** Keeps the run as it is. */
+/** Keeps the run as it is; where there is no room for all of it, what came since stays beside what was kept before. */
 export function keepRun({ name, title, made, items }) {
-  write(RUN, { name, title, made, items });
-  since = { sending: -1, results: [] };
+  if (write(RUN, { name, title, made, items })) since = { sending: -1, results: [] };
   write(NOW, since);
 }
 

@@ -1,7 +1,7 @@
 // The mail address of whoever booked, which the office mails what becomes of the request. The page asks for one only where the office can send
 // mails, hands it over once the request has its id, and keeps it nowhere.
 import { byId } from './texts.js';
-import { Fault, putMark } from './office.js';
+import { Fault, putText } from './office.js';
 import { complain } from './fields.js';
 import { status } from './news.js';
 
@@ -29,7 +29,7 @@ export async function giveAddress({ id, state }) {
   const address = filledIn(), word = byId('mail-word');
   if (!address) return;
   try {
-    await putMark('/mail/' + id, state === 'booked' ? address : address + ' none');
+    await putText('/mail/' + id, state === 'booked' ? address : address + ' none');
     word.className = 'hint';
     word.textContent = address + ' gets a mail each time that something becomes of request ' + id + '.';
   } catch (fault) {

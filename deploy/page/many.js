@@ -8,7 +8,7 @@ import { askGroups } from './groups.js';
 import { showGroups } from './grouplist.js';
 import { alone, dropRun, readRun } from './journal.js';
 import { itemOf, look, STATES } from './plan.js';
-import { forgetPlan, showItems } from './planlist.js';
+import { FEW, forgetPlan, offerFor, showItems } from './planlist.js';
 import { sure } from './question.js';
 import { askAll, begin, keep, lookAgain, run, takeUp, wantedOf } from './run.js';
 import { daysOfList, daysOfSeries, numberOf } from './series.js';
@@ -92,10 +92,17 @@ async function go() {
   run.isGoing = true;
   showPlan();
   byId('plan-words').scrollIntoView({ block: 'center' });
-  if (await alone(async () => { await askAll(); return true; })) return page.round();
+  if (await alone(async () => { await askAll(); return true; })) return ended();
   run.isGoing = false;
   run.trouble = 'Another window of this browser is at work on such a list';
   showPlan();
+}
+
+/** What found no room is shown with free hours; where that is much, those of each at a press. */
+async function ended() {
+  await offerFor(run.items.filter(item => item.state === 'none').slice(0, FEW));
+  showPlan();
+  page.round();
 }
 
 /** A free slot instead: before it was asked for, the item takes it; afterwards it is asked for, and the request without a room is withdrawn. */
@@ -196,6 +203,7 @@ export async function findBroken() {
   openMany(true);
   run.show = showPlan;
   await takeUp(broken);
+  await look(run.items, () => {}, () => false);
   const left = wantedOf(run.items).length;
   run.trouble = 'This list was broken off: ' + (left ? left + ' were not asked for' : 'all were asked for') + (run.trouble ? '. ' + run.trouble : '');
   if (!left && !run.keepTrouble) dropRun();

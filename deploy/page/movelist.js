@@ -42,6 +42,9 @@ function wordsOf(move, found) {
     return ['Both stand: ' + from + ' (request ' + old.id + ') and ' + to + ' (request ' + found.is.id + ').',
       away('Cancel the old one', () => finish(move, found)), away('Cancel the new one', () => undo(move, found)), away('Leave both')];
   }
+  if (stands === 'new' && (found.is.day !== wish.day || found.is.start !== wish.start)) {
+    return [to + ' was taken. It has ' + slotWords({ ...wish, ...found.is }) + ', as request ' + found.is.id + ', and the old booking is gone.', away('All right', () => settle(move, found))];
+  }
   if (stands === 'new') return ['It was done: ' + to + ' is booked, as request ' + found.is.id + ', and the old booking is gone.', away('All right', () => settle(move, found))];
   if (stands === 'old') {
     const words = 'It was not done: ' + from + ' stands as it was.';
@@ -66,7 +69,7 @@ function forget(move) {
 
 /** The new request stands in the place of the old one. */
 async function settle(move, { is }) {
-  const next = { ...move.wish, start: is.start || move.wish.start };
+  const next = { ...move.wish, day: is.day || move.wish.day, start: is.start || move.wish.start };
   adoptMine(move.old, next, is);
   await replaceInGroups(move.old, { ...next, id: is.id });
   forget(move);

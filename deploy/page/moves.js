@@ -18,7 +18,7 @@ function write(moves) {
   try { localStorage.setItem(MOVES, JSON.stringify(moves)); } catch { /* then it lasts as long as this page */ }
 }
 
-/** Keeps a move as it is by now: `old` is what stands, `wish` what is asked for, `id` the new request where it is known. */
+/** Keeps a move as it is by now: `old` is what stands, `wish` what is asked for, with `alternatives` or none, `id` the new request where it is known. */
 export function keepMove(move) {
   write([...readMoves().filter(each => each.key !== move.key), move]);
 }
@@ -34,9 +34,9 @@ export async function alone(move, act) {
 }
 
 /** What the office has of a move: the outcome of the old request, and that of the new one or null. */
-export async function lookAtMove({ old, wish, id }) {
+export async function lookAtMove({ old, wish, alternatives, id }) {
   const was = await askOutcome(old.room, old.id);
-  const is = id ? await askOutcome(wish.room, id) : await lookFor(wish, other => other !== old.id);
+  const is = id ? await askOutcome(wish.room, id) : await lookFor({ ...wish, alternatives }, other => other !== old.id);
   return { was, is };
 }
 

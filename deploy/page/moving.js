@@ -87,9 +87,10 @@ async function oldFirst(it, step) {
   const { json } = await cancel(it.old);
   it.isBegun = true;
   if (json.state !== 'cancels') return ends(it, false, 'Not moved: the booking was cancelled or lost its room before. Nothing was asked for.');
-  begins(it, 'Asking for the new one.', step);
   const isBack = it.wish.length === it.old.length && it.wish.start !== it.old.start;
-  const { kind, outcome, words } = await sendRequest(sent(it.wish, isBack ? [{ day: it.old.day, start: it.old.start }] : null));
+  it.alternatives = isBack ? [{ day: it.old.day, start: it.old.start }] : null;
+  begins(it, 'Asking for the new one.', step);
+  const { kind, outcome, words } = await sendRequest(sent(it.wish, it.alternatives));
   if (kind === 'perhaps') throw new Fault(true, words);
   if (kind === 'booked') return taken(it, outcome);
   return backAgain(it, outcome, kind === 'refused' ? words : slotWords(it.wish) + ' was taken meanwhile.');
@@ -106,8 +107,7 @@ function taken(it, outcome) {
 /** The old one is cancelled and the new one has no room: the old hours are asked for again. */
 async function backAgain(it, outcome, cause) {
   if (outcome && outcome.mark === 'T') await cancel({ room: it.wish.room, id: outcome.id });
-  it.wish = it.old;
-  it.id = '';
+  Object.assign(it, { wish: it.old, alternatives: null, id: '' });
   keepMove(it);
   const again = await sendRequest(sent(it.old));
   if (again.kind === 'perhaps') throw new Fault(true, again.words);

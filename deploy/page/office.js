@@ -97,14 +97,17 @@ export async function askFile(path) {
   }
 }
 
-/** Puts a mark, or a text, that all desks of the office see or its service finds. It may be put again. */
-export async function putMark(path, text = '') {
+/** Puts a mark that all desks of the office see. It may be put again. */
+export const putMark = path => putText(path, '');
+
+/** Puts a text where the office's service finds it, or a mark. */
+export async function putText(path, text) {
   await askMayBook();
   await putFile(path, text);
 }
 
-/** Has the proxy make a file of a text, an empty one for instance. */
-export async function putFile(path, text = '') {
+/** Has the proxy write a file. */
+export async function putFile(path, text) {
   const reply = await fetched(path, text, 'PUT');
   if (reply.status === 401 || reply.status === 403) throw new Fault(false, 'the password was refused');
   if (reply.status !== 201 && reply.status !== 204) throw new Fault(true, 'status ' + reply.status);

@@ -4,6 +4,7 @@ import { Fault, askSheet, labelOf, office } from './office.js';
 import { hoursOfItem, mayAsk, STATES } from './plan.js';
 import { chipOf } from './states.js';
 
+export const FEW = 5;
 const MOST_OPEN = 40, MOST_SHOWN = 100, MOST_OFFERS = 3;
 const folded = new Map();   // states that were opened or shut by hand
 const shown = new Map();    // how many of a state are shown
@@ -50,7 +51,7 @@ function offersOf(item, act, isGoing) {
   if (isGoing || !['clash', 'none'].includes(item.state)) return null;
   const free = offers.get(item);
   if (!free) {
-    const button = buttonOf('What is free?', async () => { offers.set(item, await freeNear(item)); act.show(); }, { 'aria-label': 'What is free? ' + whenOf(item) });
+    const button = buttonOf('What is free?', async () => { await offerFor([item]); act.show(); }, { 'aria-label': 'What is free? ' + whenOf(item) });
     button.dataset.key = 'free ' + item.room + item.day + item.start;
     return button;
   }
@@ -61,6 +62,11 @@ function offersOf(item, act, isGoing) {
     button.dataset.key = 'offer ' + item.day + words;
     return button;
   }));
+}
+
+/** Looks what is free near these. */
+export async function offerFor(items) {
+  for (const item of items) offers.set(item, await freeNear(item));
 }
 
 /** Free hours of the item's day: some in its room, and one in each other. */

@@ -55,9 +55,10 @@ async function askOne(item) {
 
 export const nameOf = item => item.title + ', ' + labelOf(item.room) + ', ' + item.day + ' ' + item.start;
 
-function take(item, { kind, outcome, words }) {
+function take(item, { kind, outcome, words, isLast }) {
   Object.assign(item, { state: kind, words, isWanted: false });
   if (outcome) Object.assign(item, { id: outcome.id, mark: outcome.mark });
+  if (isLast) run.trouble = words.replace(/\.$/, '');
   if (kind === 'perhaps') run.trouble = 'No reply (' + words + ') to the request for ' + nameOf(item) + ', which is not on the sheet now. Look at the sheet before you go on';
 }
 

@@ -20,13 +20,13 @@ export async function patiently(act, isStopped = () => false) {
   }
 }
 
-/** Sends a request: `booked` or `none` with the office's outcome, `refused` or `perhaps` with words. A fault means that it was not sent. */
+/** Sends a request: `booked` or `none` with the office's outcome, `refused` or `perhaps` with words; `isLast`: so will all others be. A fault means that it was not sent. */
 export async function sendRequest(asked, isStopped) {
   await askMayBook();
   try {
     const { status, json } = await patiently(() => ask('/submit', JSON.stringify(asked)), isStopped);
     if (status === 200) return { kind: json.state === 'booked' ? 'booked' : 'none', outcome: json, words: '' };
-    if (status !== 503) return { kind: 'refused', outcome: null, words: (REFUSALS[json.refusal] || [])[1] || json.name || 'it cannot be read' };
+    if (status !== 503) return { kind: 'refused', outcome: null, isLast: [13, 14].includes(json.refusal), words: (REFUSALS[json.refusal] || [])[1] || json.name || 'it cannot be read' };
     return await found(asked, json.name);
   } catch (fault) {
     if (!(fault instanceof Fault) || !fault.sent) throw fault;
@@ -41,11 +41,14 @@ async function found(asked, cause) {
   return { kind: 'perhaps', outcome: null, words: cause };
 }
 
-/** The booking of these hours and title, or else the request of them without a room, as an outcome; null where neither is there. */
-export async function lookFor({ room, day, start, length, title }, isOther = () => true) {
-  const from = minuteOf(start), { rows } = await askSheet(room, day);
-  const row = (rows || []).find(each => each.start === from && each.stop === from + length && each.title === title && isOther(each.id));
-  if (row) return { id: row.id, mark: row.mark, state: 'booked', day, start, stop: timeOf(row.stop) };
+/** The booking of these hours and title, or of an alternative, or else the request of them without a room, as an outcome; null where none is there. */
+export async function lookFor(asked, isOther = () => true) {
+  const { room, day, start, length, title, alternatives } = asked;
+  for (const slot of [{ day, start }, ...alternatives || []]) {
+    const from = minuteOf(slot.start), { rows } = await askSheet(room, slot.day);
+    const row = (rows || []).find(each => each.start === from && each.stop === from + length && each.title === title && isOther(each.id));
+    if (row) return { id: row.id, mark: row.mark, state: 'booked', day: slot.day, start: slot.start, stop: timeOf(row.stop) };
+  }
   const line = (await askErrors(room)).map(each => /^([CT]) (\d+-\d+) (\d{4}-\S+) (\d\d:\d\d)-\S+ (.*)$/.exec(each) || [])
     .find(([, , id, onDay, at, words]) => onDay === day && at === start && words === title && isOther(id));
   return line ? { id: line[2], mark: line[1], state: 'logged' } : null;

@@ -103,7 +103,6 @@ def without_room():
     page.click('#plan-buttons .main')
     settled()
     becomes('one found no room', {'none': 1, 'booked': 5})
-    page.click(f'{state("none")} li button')
     page.until('it is shown with free hours', state('none'), 'Oak 14:45–15:45')
     page.picture_of('many-no-room')
     page.click(f'{state("none")} button[aria-label$="14:45–15:45"]')

@@ -242,6 +242,36 @@ def the_line_is_cut():
     is_sheet('nothing was done', ['11:00-12:00 Twice'], day=NEXT)
 
 
+def fallen_back():
+    """The old hours are the alternative of the new request, and its reply gets lost, or the tab is closed before it comes."""
+    book('12:00', 30, 'In the way', day=NEXT)
+    for name, lost, words in (('lost', 'throw new Error("cut")', ''), ('closed', 'await new Promise(() => {})', 'closed')):
+        page.run('window.real = window.real || fetch; window.fetch = async (at, words) => { const reply = await real(at, words); '
+                 'if (String(at).endsWith("/submit") && words.method === "POST") { LOST; } return reply; }'.replace('LOST', lost))
+        change('11:00', day=NEXT, start='11:30')
+        page.run('window.ready = window.fetch; window.fetch = (at, words) => String(at).includes("/days/") ? real(at, words).then(async reply => new Response((await reply.text()).replace('
+                 '/^12:00.*\\n/m, ""), { status: reply.status })) : ready(at, words)')
+        page.run('document.querySelector("#move form").dispatchEvent(new Event("change"))')
+        page.gone(f'{name}: the sheet is an old one', '#move-way', 'In the way')
+        page.click('#move-send')
+        if words:
+            page.waits(lambda: 'Twice' in office.asked(f'/rooms/oak/days/{NEXT}'))
+            page.until('it waits for the reply', '#move-outcome', 'Asking for the new one.')
+            page.waits(lambda: identity('Twice', day=NEXT) != before_it)
+            page.open(f'{page.bare}/?fallen#{NEXT}')
+            page.until('a request that fell back is found', '#moves', 'was taken. It has Oak, Tue 2095-12-20 11:00–12:00, as request 1-')
+            page.click('#moves button')
+            check('and needs no more', page.waits(lambda: not page.text('#moves')))
+        else:
+            page.until('a lost reply of one that fell back is made good', '#move-outcome', 'It has its old hours again, as request 1-')
+            page.click('#move-close')
+        before_it = identity('Twice', day=NEXT)
+        page.run('window.fetch = window.real || fetch')
+        is_sheet(f'{name}: it stands', ['11:00-12:00 Twice', '12:00-12:30 In the way'], day=NEXT)
+    ask('/cancel', room='oak', id=identity('In the way', day=NEXT))
+    page.look()
+
+
 def of_a_group():
     """A booking of a group that is moved stays of it."""
     name = os.path.join(groups, f'{NEXT}.abcdefgh')
@@ -276,7 +306,7 @@ office.rooms('book', 'oak', '60', DAY, '14:00', 'Board')
 page = Page(int(free) + 1, os.path.join(folder, 'profile-move'), url, pictures)
 try:
     office.serve()
-    for step in (a_move, in_the_way, longer_and_renamed, somebody_was_quicker, the_tab_is_closed, the_line_is_cut, of_a_group, on_a_phone):
+    for step in (a_move, in_the_way, longer_and_renamed, somebody_was_quicker, the_tab_is_closed, the_line_is_cut, fallen_back, of_a_group, on_a_phone):
         step()
     check('nothing in the console of the browser', not [line for line in page.log() if 'Failed to load resource' not in line], page.log())
 except (RuntimeError, OSError) as error:
