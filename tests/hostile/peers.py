@@ -4,9 +4,9 @@
     peers.py PROGRAM FOLDER
 
 `exchange` with a peer whose reply to a pull ends after each of its bytes, with one that breaks the connection after each byte of each
-of its replies, with one whose reply is none, with one that knows the first exchange text alone, and with one that is no peer to hand anything; a submission to a
-served database by clients that go away at once. What was taken stays; what was answered is there. And the three requests of an exchange are those of the
-formats, byte by byte, at addresses of each kind. The last line counts.
+of its replies, with one whose reply is none, with one that knows the first exchange text alone, and with one for whose position there is no batch; a
+submission to a served database by clients that go away at once. What was taken stays; what was answered is there. And the three requests of an exchange
+are those of the formats, byte by byte, at addresses of each kind. The last line counts.
 """
 
 import os
