@@ -1,4 +1,5 @@
-ghost use Rattle.std.specs.Prelude.{◌≡◌, false, [], filter, IfOk, IfErr, IfSome, OnOk, OnErr};
+ghost use Rattle.std.specs.Prelude.{◌≡◌, false, [], bytes_eq, filter, IfOk, IfErr, IfSome, OnOk, OnErr};
+ghost use Rattle.std.specs.List.{list_any};
 ghost use Rattle.mr_model.specs.Replica.{Replica, opening};
 ghost use Rattle.mr_model.specs.Scopes.{OfTarget, in_scope, with_rows};
 ghost use Rattle.mr_model.specs.Tables.{Stands, Tables as RowsOfTables, tables_of};
@@ -28,6 +29,7 @@ use mr_base::{Refusal, RoomName, ServerId, WriteId};
 use mr_part::{Part, Scope};
 use mr_replay::Board;
 use mr_tables::board_changes::BoardTables;
+use mr_tables::rooms::is_known;
 use mr_tables::table_row::copies_of;
 use mr_tables::{
     BookingRow, CancelRow, CancelledRow, Change, ErrorRow, MetaRow, PlaceRow, Tables, VectorRow,
@@ -125,6 +127,20 @@ impl Memory {
         if let Ok(tables) = self.read() {
             self.board = shared_board(self.alloc, &tables);
         }
+    }
+
+    /// The numbers.
+    pub(crate) fn meta(&self) -> MetaRow
+        ensures { result ≡ self.now.meta }
+    {
+        self.meta
+    }
+
+    /// Whether the room is known.
+    pub(crate) fn knows(&self, room: &RoomName) -> bool
+        ensures { result ≡ list_any (bytes_eq room.now) self.now.room }
+    {
+        is_known(&self.room, room)
     }
 
     /// Makes the whole change, or nothing.
