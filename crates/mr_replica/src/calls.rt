@@ -1,4 +1,6 @@
-ghost use Rattle.std.specs.Prelude.{◌≡◌, OnErr, IfOk};
+ghost use Rattle.std.specs.Prelude.{◌≡◌, ◌≢◌, ◌<◌, ◌≤◌, true, false, bytes_eq, Some, Err, OnErr, IfOk};
+ghost use Rattle.std.specs.List.{list_any};
+ghost use Rattle.mr_model.specs.Exchange.{Header};
 ghost use Rattle.mr_model.specs.Positions.{position_of};
 ghost use Rattle.mr_model.specs.Replica.{Replica};
 ghost use Rattle.mr_model.specs.Replies.{RoomAdded, CommittedIs, DroppedIs, Took, PositionIs, BatchIs};
@@ -19,10 +21,16 @@ impl Desk {
         ensures step { DeskTakesStep (λ a. add_room a room.now) (λ _ _. RoomAdded) self.old result self.new }
         ensures change { IfOk result (λ change. self.new ≡ changed change self.old) }
         ensures err { OnErr result (self.new ≡ self.old) }
+        // A refusal that is due is returned without memory.
+        ensures due { list_any (bytes_eq room.now) self.old.room ≡ true → result ≡ Err Refusal.RoomThere }
         ensures own { (a : Replica) → StandsFor self.old a → NeverStore result }
     {
-        // For the prover alone: a scope may hold items.
+        // For the prover alone: this is a room's name, and a scope may hold items.
+        room.as_str();
         let _none: Option<&Item> = None;
+        if self.memory.knows(room) {
+            return Err(Refusal::RoomThere);
+        }
         match self.part(&Scope::Nothing) {
             Ok(part) => self.changed_so(part.add_room(room)),
             Err(refusal) => Err(refusal),
@@ -37,10 +45,15 @@ impl Desk {
         ensures told { (a : Replica) → StandsFor self.old a
             → IfOk result (λ done. outcome_in request (submit_request request a).replica done.0 ≡ put_outcome done.1.booking done.1.errorlog) }
         ensures err { OnErr result (self.new ≡ self.old) }
+        // A refusal that is due is returned without memory.
+        ensures due_room { list_any (bytes_eq request.room) self.old.room ≡ false → result ≡ Err Refusal.UnknownRoom }
         ensures own { (a : Replica) → StandsFor self.old a → NeverStore result }
     {
         // For the prover alone: a scope may hold items.
         let _none: Option<&Item> = None;
+        if !self.memory.knows(&request.room) {
+            return Err(Refusal::UnknownRoom);
+        }
         match self.part(&Scope::InRoom(&request.room)) {
             Ok(part) => self.changed_by(part.submit(request)),
             Err(refusal) => Err(refusal),
@@ -56,12 +69,17 @@ impl Desk {
         ensures told { (a : Replica) → StandsFor self.old a
             → IfOk result (λ done. outcome_at_room room (cancel_request room target a).replica done.0 ≡ put_cancel_outcome done.1.cancels) }
         ensures err { OnErr result (self.new ≡ self.old) }
+        // A refusal that is due is returned without memory.
+        ensures due_room { list_any (bytes_eq room) self.old.room ≡ false → result ≡ Err Refusal.UnknownRoom }
         ensures own { (a : Replica) → StandsFor self.old a → NeverStore result }
     {
         // For the prover alone: these are a room's name and an id, and a scope may hold items.
         room.as_str();
         let _count = target.n;
         let _none: Option<&Item> = None;
+        if !self.memory.knows(&room) {
+            return Err(Refusal::UnknownRoom);
+        }
         match self.part(&Scope::OfTarget(target)) {
             Ok(part) => self.changed_by(part.cancel(room, target)),
             Err(refusal) => Err(refusal),
@@ -74,10 +92,16 @@ impl Desk {
         ensures step { DeskTakesStep (λ a. commit a k) (λ _ done. CommittedIs done.0) self.old result self.new }
         ensures change { IfOk result (λ done. self.new ≡ changed done.1 self.old) }
         ensures err { OnErr result (self.new ≡ self.old) }
+        // A refusal that is due is returned without memory.
+        ensures due { self.old.meta.server ≢ self.old.meta.primary → result ≡ Err Refusal.NotPrimary }
         ensures own { (a : Replica) → StandsFor self.old a → NeverStore result }
     {
         // For the prover alone: a scope may hold items.
         let _none: Option<&Item> = None;
+        let meta = self.memory.meta();
+        if meta.server != meta.primary {
+            return Err(Refusal::NotPrimary);
+        }
         match self.part(&Scope::NextCommits(k)) {
             Ok(part) => self.changed_by(part.commit(k)),
             Err(refusal) => Err(refusal),
@@ -90,10 +114,20 @@ impl Desk {
         ensures step { DeskTakesStep (λ a. truncate a number) (λ _ done. DroppedIs done.0) self.old result self.new }
         ensures change { IfOk result (λ done. self.new ≡ changed done.1 self.old) }
         ensures err { OnErr result (self.new ≡ self.old) }
+        // A refusal that is due is returned without memory.
+        ensures due_primary { self.old.meta.server ≡ self.old.meta.primary → result ≡ Err Refusal.PrimaryKeepsAll }
+        ensures due_beyond { self.old.meta.server ≢ self.old.meta.primary → self.old.meta.commits < number → result ≡ Err Refusal.BeyondCommitted }
         ensures own { (a : Replica) → StandsFor self.old a → NeverStore result }
     {
         // For the prover alone: a scope may hold items.
         let _none: Option<&Item> = None;
+        let meta = self.memory.meta();
+        if meta.server == meta.primary {
+            return Err(Refusal::PrimaryKeepsAll);
+        }
+        if number > meta.commits {
+            return Err(Refusal::BeyondCommitted);
+        }
         match self.part(&Scope::UpTo(number)) {
             Ok(part) => self.changed_by(part.truncate(number)),
             Err(refusal) => Err(refusal),
@@ -106,10 +140,17 @@ impl Desk {
         ensures step { DeskTakesStep (λ a. receive_batch a batch.now) (λ _ taken. Took taken.0 taken.1) self.old result self.new }
         ensures change { IfOk result (λ taken. self.new ≡ changed taken.2 self.old) }
         ensures err { OnErr result (self.new ≡ self.old) }
+        // A refusal that is due is returned without memory.
+        ensures due { (h : Header) → batch.now.header ≡ Some h → h.primary ≢ self.old.meta.primary → result ≡ Err Refusal.WrongPrimary }
         ensures own { (a : Replica) → StandsFor self.old a → NeverStore result }
     {
         // For the prover alone: the batch is within its limits.
         batch.is_within_limits();
+        if let Some(header) = batch.header {
+            if header.primary != self.memory.meta().primary {
+                return Err(Refusal::WrongPrimary);
+            }
+        }
         match self.part(&Scope::Items(batch.items.as_slice())) {
             Ok(part) => self.changed_by_batch(part.receive(batch)),
             Err(refusal) => Err(refusal),
@@ -134,8 +175,18 @@ impl Desk {
     /// another primary, if one of the commits is dropped, and if that version can't say one of these writes, which the second always can.
     pub fn batch(&self, position: &Position, max_lines: LineCount) -> Result<Batch, Refusal>
         ensures step { DeskTakesStep (λ a. leave a (batch_reply a position.now max_lines)) (λ _ batch. BatchIs batch) self.now result self.now }
+        // A refusal that is due is returned without memory.
+        ensures due_primary { position.now.primary ≢ self.now.meta.primary → result ≡ Err Refusal.WrongPrimary }
+        ensures due_truncated { position.now.primary ≡ self.now.meta.primary → position.now.commits < self.now.meta.dropped → result ≡ Err Refusal.Truncated }
         ensures own { (a : Replica) → StandsFor self.now a → NeverStore result }
     {
+        let meta = self.memory.meta();
+        if position.primary != meta.primary {
+            return Err(Refusal::WrongPrimary);
+        }
+        if position.commits < meta.dropped {
+            return Err(Refusal::Truncated);
+        }
         match self.part(&Scope::Above(position.commits)) {
             Ok(part) => part.batch(position, max_lines),
             Err(refusal) => Err(refusal),

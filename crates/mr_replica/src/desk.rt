@@ -1,6 +1,4 @@
-ghost use Rattle.std.specs.Prelude.{◌≡◌, ◌⊎◌, true, Ok, Err, IfOk, IfErr, OnOk, OnErr};
-ghost use Rattle.std.proofs.Props.{props};
-ghost use Rattle.mr_lists.specs.RowsAround.{AreInOrder, in_order-prop};
+ghost use Rattle.std.specs.Prelude.{◌≡◌, ◌⊎◌, Ok, Err, IfOk, IfErr, OnOk, OnErr};
 ghost use Rattle.mr_model.specs.Replica.{Replica, opening};
 ghost use Rattle.mr_model.specs.Tables.{tables_of};
 ghost use Rattle.mr_part.specs.Answering.{NeverStore};
@@ -10,21 +8,18 @@ ghost use Rattle.mr_replica.specs.Desk.{StandsFor};
 ghost use Rattle.mr_tables.specs.Change.{changed};
 ghost use Rattle.mr_tables.specs.Summary.{IsWithin};
 
+use crate::Memory;
 use mr_base::{Refusal, ServerId};
-use mr_lists::lists::{are_in_order, change_tables, opening_tables};
 use mr_part::{Part, Scope};
-use mr_tables::{Change, Tables};
+use mr_tables::Change;
 use std::alloc::Global;
 use std::marker::Model;
 
-/// The working value of one replica: its tables as plain lists. A call makes the part of them that it needs, takes the step of that
-/// part, and makes the change in the lists.
+/// The working value of one replica: its tables in memory. A call makes the part of them that it needs, takes the step of that
+/// part, and makes the change in memory.
 #[derive(Drop)]
 pub struct Desk {
-    pub(crate) alloc: Global,
-    pub(crate) tables: Tables,
-    is_ordered: bool,
-    ghost in_order: { is_ordered ≡ true → AreInOrder tables } by { Prim.hlevel (props, in_order-prop) },
+    pub(crate) memory: Memory,
 }
 
 impl Model for Desk {
@@ -32,7 +27,7 @@ impl Model for Desk {
 
     ghost Value = { RowsOfTables };
 
-    ghost view = { λ d. d.tables };
+    ghost view = { λ d. d.memory };
 }
 
 impl Desk {
@@ -41,18 +36,8 @@ impl Desk {
         ensures tables { result ≡ tables_of (opening server primary) }
         ensures stands { StandsFor result (opening server primary) }
     {
-        Desk::over(alloc, opening_tables(alloc, server, primary))
-    }
-
-    /// The desk with these tables, whatever they stand for.
-    pub(crate) fn over(alloc: Global, tables: Tables) -> Desk
-        ensures { result ≡ tables }
-    {
-        let is_ordered = are_in_order(&tables);
         Desk {
-            alloc,
-            tables,
-            is_ordered,
+            memory: Memory::opening(alloc, server, primary),
         }
     }
 
@@ -62,7 +47,7 @@ impl Desk {
         ensures only { (a : Replica) → StandsFor self.now a → IfErr result (λ e. e ≡ Refusal.OutOfMemory) }
         ensures within { IfOk result (λ part. IsWithin part.summary) }
     {
-        Part::from_tables(self.alloc, scope, &self.tables)
+        self.memory.part_for(scope)
     }
 
     /// Makes the change.
@@ -71,8 +56,7 @@ impl Desk {
         ensures err { OnErr result (self.new ≡ self.old) }
         ensures only { IfErr result (λ e. e ≡ Refusal.OutOfMemory) }
     {
-        change_tables(self.alloc, &mut self.tables, change, self.is_ordered)?;
-        Ok(())
+        Ok(self.memory.apply(change)?)
     }
 
     /// Makes the change that a call of the part answered, and hands the answer on.

@@ -6,13 +6,14 @@ ghost use Rattle.mr_model.specs.Changes.{AreInKeyOrder};
 ghost use Rattle.mr_model.specs.Replica.{Replica, IsReplica};
 ghost use Rattle.mr_model.specs.Tables.{tables_of};
 ghost use Rattle.mr_replica.specs.Desk.{StandsFor, IsWithinLimits};
+ghost use Rattle.mr_replica.specs.Ordered.{AreInOrder};
 
-use crate::Desk;
+use crate::{Desk, Memory};
 use mr_audit::do_tables_agree;
 use mr_base::Refusal;
-use mr_lists::lists::copied;
 use mr_part::kept_rows::{kept_rows, of_store};
 use mr_tables::boards::board_with;
+use mr_tables::table_row::copies_of;
 use mr_tables::{Tables, VectorRow};
 use std::alloc::Global;
 
@@ -30,14 +31,14 @@ impl Desk {
         ensures cause { IfErr result (λ e. (e ≡ Refusal.OutOfMemory) ⊎ (e ≡ Refusal.Store)) }
     {
         match copy_of_agreeing(alloc, tables) {
-            Ok(tables) => Ok(Desk::over(alloc, tables)),
+            Ok(memory) => Ok(Desk { memory }),
             Err(refusal) => Err(of_store(refusal)),
         }
     }
 }
 
 /// Equal tables, if their numbers are within the limits of positions, their rows agree with each other, and each can be read.
-fn copy_of_agreeing(alloc: Global, tables: &Tables) -> Result<Tables, Refusal>
+fn copy_of_agreeing(alloc: Global, tables: &Tables) -> Result<Memory, Refusal>
     ensures copy { IfOk result (λ copy. copy ≡ tables.now) }
     ensures only { (a : Replica) → IsReplica a → tables.now ≡ tables_of a → IfErr result (λ e. e ≡ Refusal.OutOfMemory) }
     ensures within { IfOk result (λ copy. IsWithinLimits tables.now) }
@@ -60,7 +61,7 @@ fn copy_of_agreeing(alloc: Global, tables: &Tables) -> Result<Tables, Refusal>
 }
 
 /// Equal tables, if each row can be read.
-fn copy_of_read(alloc: Global, tables: &Tables) -> Result<Tables, Refusal>
+fn copy_of_read(alloc: Global, tables: &Tables) -> Result<Memory, Refusal>
     ensures copy { IfOk result (λ copy. copy ≡ tables.now) }
     ensures only { (a : Replica) → IsReplica a → tables.now ≡ tables_of a → IfErr result (λ e. e ≡ Refusal.OutOfMemory) }
 {
@@ -85,11 +86,21 @@ fn are_logs_read(alloc: Global, tables: &Tables) -> Result<(), Refusal>
     Ok(())
 }
 
-fn copy_of(alloc: Global, tables: &Tables) -> Result<Tables, Refusal>
+fn copy_of(alloc: Global, tables: &Tables) -> Result<Memory, Refusal>
     ensures copy { IfOk result (λ copy. copy ≡ tables.now) }
-    ensures only { IfErr result (λ e. e ≡ Refusal.OutOfMemory) }
+    ensures only { AreInOrder tables.now → IfErr result (λ e. e ≡ Refusal.OutOfMemory) }
 {
-    Ok(copied(alloc, tables)?)
+    let tables = Tables {
+        meta: tables.meta,
+        room: copies_of(alloc, &tables.room)?,
+        vector: copies_of(alloc, &tables.vector)?,
+        log: copies_of(alloc, &tables.log)?,
+        booking: copies_of(alloc, &tables.booking)?,
+        errorlog: copies_of(alloc, &tables.errorlog)?,
+        cancelled: copies_of(alloc, &tables.cancelled)?,
+        cancels: copies_of(alloc, &tables.cancels)?,
+    };
+    Memory::over(alloc, tables)
 }
 
 /// Whether the numbers in the rows are within the limits of positions.

@@ -3,10 +3,9 @@ ghost use Rattle.mr_store.specs.KeeperCalls.{failures_after, IsAtomic, IsQuiet};
 ghost use Rattle.mr_store.specs.Cached.{IsMemoryAfter, IsMemoryOf, NeverFails};
 
 use crate::keeper::told;
-use crate::memory::Memory;
 use crate::{Answer, Fault, Keeper, Question};
 use mr_part::{Part, Scope};
-use mr_replica::Desk;
+use mr_replica::{Desk, Memory};
 use mr_tables::{Change, Tables};
 use std::alloc::Global;
 use std::marker::Model;

@@ -2,7 +2,7 @@ ghost use Rattle.std.specs.Prelude.{◌≡◌};
 ghost use Rattle.std.specs.List.{list_any};
 ghost use Rattle.mr_model.specs.Writes.{same_id};
 ghost use Rattle.mr_agree.specs.Ids.{has_place_of};
-ghost use Rattle.mr_store.specs.Taken.{is_taken};
+ghost use Rattle.mr_replica.specs.Taken.{is_taken};
 
 use mr_base::WriteId;
 use mr_tables::{IdRow, Tables};

@@ -7,11 +7,11 @@ ghost use Rattle.mr_replica.specs.Desk.{StandsFor, IsWithinLimits};
 ghost use Rattle.mr_part.specs.NextId.{id_given};
 ghost use Rattle.mr_part.specs.Parts.{IsPartOf};
 ghost use Rattle.mr_part.specs.ScopeOf.{scope_of};
-ghost use Rattle.mr_store.specs.Answers.{IsAnswerTo, IsNamedAs};
+ghost use Rattle.mr_replica.specs.Answers.{IsAnswerTo, IsNamedAs};
 ghost use Rattle.mr_store.specs.KeeperCalls.{failures_for, fault_refusal, IsAtomic, IsQuiet};
 ghost use Rattle.mr_store.specs.declared.keeper.Fault.{Fault};
-ghost use Rattle.mr_store.specs.Picked.{picked_errors, picked_cancelled, picked_cancels, AreBookings, IsPlaceOf};
-ghost use Rattle.mr_store.specs.Taken.{is_taken};
+ghost use Rattle.mr_replica.specs.Picked.{picked_errors, picked_cancelled, picked_cancels, AreBookings, IsPlaceOf};
+ghost use Rattle.mr_replica.specs.Taken.{is_taken};
 
 use crate::{Answer, Question};
 use mr_base::{Day, Refusal, RoomName, WriteId};

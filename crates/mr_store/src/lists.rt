@@ -2,14 +2,14 @@ ghost use Rattle.std.specs.Prelude.{◌≡◌, Ok, IfErr, IfOk, IsErr, OnErr};
 ghost use Rattle.mr_model.specs.Replica.{opening};
 ghost use Rattle.mr_model.specs.Tables.{tables_of, Stands};
 ghost use Rattle.mr_store.specs.KeeperCalls.{failures_after};
-ghost use Rattle.mr_store.specs.KeeperLists.{IsDueOver, ListsView};
+ghost use Rattle.mr_replica.specs.Ordered.{IsDueOver};
+ghost use Rattle.mr_store.specs.KeeperLists.{ListsView};
 
 use crate::keeper::told;
-use crate::memory::Memory;
 use crate::{Answer, Fault, Keeper, Question};
 use mr_base::{Refusal, ServerId};
 use mr_part::{Part, Scope};
-use mr_replica::Desk;
+use mr_replica::{Desk, Memory};
 use mr_tables::{Change, Tables};
 use std::alloc::Global;
 use std::marker::Model;

@@ -1,7 +1,7 @@
 ghost use Rattle.std.specs.Prelude.{◌≡◌, OnOk};
 ghost use Rattle.std.specs.List.Sorted.{IsPermutation, IsSortedBy};
-ghost use Rattle.mr_store.specs.Order.{booking_cmp};
-ghost use Rattle.mr_store.specs.Picked.{booking_before};
+ghost use Rattle.mr_replica.specs.Order.{booking_cmp};
+ghost use Rattle.mr_replica.specs.Picked.{booking_before};
 
 use mr_tables::BookingRow;
 use std::alloc::AllocError;

@@ -6,9 +6,9 @@ ghost use Rattle.mr_replica.specs.Desk.{StandsFor, IsWithinLimits};
 ghost use Rattle.mr_part.specs.NextId.{id_given};
 ghost use Rattle.mr_part.specs.Parts.{IsPartOf};
 ghost use Rattle.mr_part.specs.ScopeOf.{scope_of};
-ghost use Rattle.mr_store.specs.Answers.{IsAnswerTo, IsNamedAs};
+ghost use Rattle.mr_replica.specs.Answers.{IsAnswerTo, IsNamedAs};
 ghost use Rattle.mr_store.specs.KeeperCalls.{failures_for};
-ghost use Rattle.mr_store.specs.Taken.{is_taken};
+ghost use Rattle.mr_replica.specs.Taken.{is_taken};
 ghost use Rattle.mr_store.specs.Trips.{is_due, IsTripped, IsQuietAt, IsAtomicAt};
 
 use crate::{Answer, Fault, Keeper, Question};

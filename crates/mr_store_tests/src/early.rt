@@ -3,9 +3,9 @@
 
 use crate::builders::{Ask, MONDAY, add, booking, header, server, stamp};
 use crate::keepers::told;
+use crate::plain::{change_tables, opening_tables};
 use crate::same::same;
 use mr_base::{Batch, Ending, Item, Refusal, ServerId, Version};
-use mr_lists::lists::{change_tables, opening_tables};
 use mr_part::Scope;
 use mr_replica::Desk;
 use mr_store::{Keeper, ListKeeper};
@@ -66,7 +66,7 @@ fn keep(keeper: &mut ListKeeper, batch: &Batch) -> Result<(), Refusal> {
 
 fn list(alloc: Global, desk: &mut Desk, tables: &mut Tables, batch: &Batch) -> Result<(), Refusal> {
     let (_, _, change) = desk.receive(batch)?;
-    Ok(change_tables(alloc, tables, &change, false)?)
+    Ok(change_tables(alloc, tables, &change)?)
 }
 
 /// The rows of the keeper behind both batches.

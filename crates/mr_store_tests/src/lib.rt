@@ -32,6 +32,8 @@ mod parts;
 #[cfg(test)]
 mod places;
 #[cfg(test)]
+mod plain;
+#[cfg(test)]
 mod reading_tests;
 #[cfg(test)]
 mod row_tests;

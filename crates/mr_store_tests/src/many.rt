@@ -3,9 +3,9 @@
 use crate::builders::{MONDAY, add, id, server};
 use crate::changes::{Booked, booking, error, meta, no_change};
 use crate::keepers::{opening, told};
+use crate::plain::{change_tables, opening_tables};
 use crate::same::same;
 use mr_base::{Day, Refusal, RoomName};
-use mr_lists::lists::{change_tables, opening_tables};
 use mr_store::{Cached, Keeper, PlaceRow};
 use mr_tables::{BookingRow, Change, ErrorRow};
 use std::alloc::Global;
@@ -199,7 +199,7 @@ fn plain_rows(alloc: Global) -> Result<Vec<Seen>, Refusal> {
     let mut tables = opening_tables(alloc, server(2)?, server(1)?);
     for step in 0..STEPS {
         let change = change_at(alloc, step)?;
-        change_tables(alloc, &mut tables, &change, false)?;
+        change_tables(alloc, &mut tables, &change)?;
     }
     let mut seen = Vec::new(alloc);
     see_bookings(&tables.booking, &mut seen)?;

@@ -7,7 +7,7 @@ use Rattle.mr_rows.specs.Database.{tables_in}
 use Rattle.mr_rows.proofs.QueryLemmas.{uses_made, told_two}
 use Rattle.mr_sql.specs.Enough.{AreEnough}
 use Rattle.mr_tables.specs.Summary.{summary_of}
-use Rattle.mr_store.proofs.NextIds.{given_free}
+use Rattle.mr_replica.proofs.NextIds.{given_free}
 use Rattle.mr_sql.proofs.FailedReads.{alone_used, memory_alone, same_alone}
 use Rattle.mr_rows.proofs.CauseLemmas.{same_reads}
 use Rattle.mr_rows.specs.Reads.{IsInUse}

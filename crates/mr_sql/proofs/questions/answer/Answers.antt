@@ -7,7 +7,7 @@ use Rattle.sqlite.specs.Held.{state}
 use Rattle.mr_model.specs.Texts.{Text}
 use Rattle.mr_model.specs.Tables.{ErrorRow, CancelledRow, CancelRow}
 use Rattle.mr_store.specs.Answers.{IsAnswerTo}
-use Rattle.mr_store.specs.declared.questions.Answer.TheVariants as told
+use Rattle.mr_replica.specs.declared.questions.Answer.TheVariants as told
 use Rattle.mr_rows.specs.Database.{IsHeld, in_order, tables_in}
 use Rattle.mr_rows.specs.Form.{error_form, cancelled_form, cancel_form}
 use Rattle.mr_rows.proofs.QueryLemmas.{reads_made}

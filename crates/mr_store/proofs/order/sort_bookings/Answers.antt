@@ -2,7 +2,7 @@ use Rattle.std.proofs.Common.{rules, subst}
 use Rattle.std.proofs.lemmas.List.Sorted.{ranks_by, answers_always}
 use Rattle.std.proofs.lemmas.Result.{on_ok_weaker}
 use Rattle.std.specs.List.Sorted.{IsSortedBy}
-use Rattle.mr_store.proofs.CalendarOrder.{booking_total, booking_cmp-before}
+use Rattle.mr_replica.proofs.CalendarOrder.{booking_total, booking_cmp-before}
 use Rattle.mr_store.proofs.order.sort_bookings.Goals as goal
 
 pub returns-clause-sorted : goal.returns-clause-sorted

@@ -1,9 +1,12 @@
+use Rattle.std.proofs.Common.{◌∙◌}
 use Rattle.mr_model.specs.Replies.{RoomAdded}
 use Rattle.mr_model.specs.Scopes.{Nothing}
 use Rattle.mr_model.specs.Step.{add_room}
 use Rattle.mr_replica.proofs.Steps.{room_step}
 use Rattle.mr_replica.proofs.Taken.{turned, unmade, never_unmade}
 use Rattle.mr_tables.specs.Change.{ChangeView}
+use Rattle.mr_base.specs.declared.refusals.Refusal.TheVariants as refusal
+use Rattle.mr_replica.proofs.Dues.{due_step, is_known_to, room_there}
 use Rattle.mr_replica.proofs.desk.Desk.add_room.Goals as goal
 
 pub returns-in-Ok-clause-step : goal.returns-in-Ok-clause-step
@@ -18,3 +21,8 @@ returns-in-Ok-clause-own c = λ a h. c.changed_so.ensures.own c.add_room.ensures
 
 pub returns-in-Err-clause-own : goal.returns-in-Err-clause-own
 returns-in-Err-clause-own c = λ a h. never_unmade c.in-Err.refusal (c.in-Err.ensures.only a h)
+
+pub returns-then-knows-clause-step : goal.returns-then-knows-clause-step
+returns-then-knows-clause-step c =
+    due_step (λ a. add_room a c.args.room.now) (λ _ _. RoomAdded) c.args.self.now refusal.RoomThere
+    (λ a h. room_there c.args.room.now a c.as_str.ensures.is_name (is_known_to c.args.room.now a c.self.view_is h.are c.knows.ensures ∙ c.if-knows.true))

@@ -1,4 +1,4 @@
-use Rattle.std.proofs.Common.{◌≡◌, IsTrue, subst}
+use Rattle.std.proofs.Common.{◌≡◌, ◌∙◌, IsTrue, subst}
 use Rattle.mr_model.specs.Scopes.{OfTarget}
 use Rattle.mr_model.specs.Writes.{Id, is_id}
 use Rattle.mr_part.specs.Steps.{cancel_request, outcome_at_room}
@@ -6,6 +6,8 @@ use Rattle.mr_part.specs.Answering.{put_cancel_outcome}
 use Rattle.mr_replica.proofs.Steps.{cancel_step}
 use Rattle.mr_replica.proofs.Taken.{turned, unmade, never_unmade, told_on}
 use Rattle.mr_tables.specs.Change.{ChangeView}
+use Rattle.mr_base.specs.declared.refusals.Refusal.TheVariants as refusal
+use Rattle.mr_replica.proofs.Dues.{due_step, is_known_to, unknown_room_of_cancel}
 use Rattle.mr_replica.proofs.desk.Desk.cancel.Goals as goal
 
 pub returns-in-Ok-clause-step : goal.returns-in-Ok-clause-step
@@ -25,3 +27,8 @@ pub returns-in-Ok-clause-told : goal.returns-in-Ok-clause-told
 returns-in-Ok-clause-told c = λ a h.
     told_on (λ (done : Id × ChangeView). outcome_at_room c.args.room (cancel_request c.args.room c.args.target a).replica done.0 ≡ put_cancel_outcome done.1.cancels) _
     c.cancel.result c.changed_by.result c.changed_by.ensures.made (c.cancel.ensures.told a h.sound (c.in-Ok.ensures.part a h))
+
+pub returns-then-not-knows-clause-step : goal.returns-then-not-knows-clause-step
+returns-then-not-knows-clause-step c =
+    due_step (cancel_request c.args.room c.args.target) (λ a (done : Id × ChangeView). outcome_at_room c.args.room a done.0) c.args.self.now refusal.UnknownRoom
+    (λ a h. unknown_room_of_cancel c.args.room c.args.target a (is_known_to c.args.room a c.self.view_is h.are c.knows.ensures ∙ c.if-not-knows.true))

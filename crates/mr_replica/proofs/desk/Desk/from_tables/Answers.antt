@@ -4,7 +4,7 @@ use Rattle.mr_base.specs.declared.refusals.Refusal.TheVariants.{Store}
 use Rattle.mr_replica.proofs.desk.Desk.from_tables.Goals as goal
 
 pub returns-in-Ok-clause-desk : goal.returns-in-Ok-clause-desk
-returns-in-Ok-clause-desk c = λ a h e. record { sound = h; are = c.over.ensures ∙ c.in-Ok.ensures.copy ∙ e }
+returns-in-Ok-clause-desk c = λ a h e. record { sound = h; are = c.in-Ok.ensures.copy ∙ e }
 
 pub returns-in-Err-clause-only : goal.returns-in-Err-clause-only
 returns-in-Err-clause-only c = λ a h e. c.of_store.ensures.memory (c.in-Err.ensures.only a h e)

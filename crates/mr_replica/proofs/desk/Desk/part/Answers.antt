@@ -1,10 +1,9 @@
-use Rattle.std.proofs.Common.{◌∙◌, ap}
-use Rattle.mr_model.specs.Scopes.{in_scope}
-use Rattle.mr_part.specs.ScopeOf.{scope_of}
+use Rattle.std.proofs.Common.{sym, subst}
+use Rattle.mr_model.specs.Tables.{Stands}
 use Rattle.mr_replica.proofs.desk.Desk.part.Goals as goal
 
 pub returns-clause-part : goal.returns-clause-part
-returns-clause-part c = λ a h. c.from_tables.ensures.part a h.sound (ap (in_scope (scope_of c.args.scope.now)) (c.self.view_is ∙ h.are))
+returns-clause-part c = λ a h. c.part_for.ensures.loaded a (subst (λ t. Stands t a) (sym c.self.view_is) h)
 
 pub returns-clause-only : goal.returns-clause-only
-returns-clause-only c = λ a h. c.from_tables.ensures.only a h.sound (ap (in_scope (scope_of c.args.scope.now)) (c.self.view_is ∙ h.are))
+returns-clause-only c = λ a h. c.part_for.ensures.only a (subst (λ t. Stands t a) (sym c.self.view_is) h)

@@ -1,4 +1,5 @@
-use Rattle.std.proofs.Common.{◌≡◌, IsTrue, subst}
+use Rattle.std.proofs.Common.{◌≡◌, ◌∙◌, IsTrue, false, subst}
+use Rattle.mr_model.specs.Replica.{knows_room}
 use Rattle.mr_model.specs.Requests.{Request, is_request}
 use Rattle.mr_model.specs.Scopes.{InRoom}
 use Rattle.mr_model.specs.Writes.{Id}
@@ -9,6 +10,8 @@ use Rattle.mr_replica.proofs.Steps.{submit_step}
 use Rattle.mr_replica.proofs.Taken.{IsPartFrom}
 use Rattle.mr_replica.proofs.Taken.{turned, unmade, never_unmade, told_on}
 use Rattle.mr_tables.specs.Change.{ChangeView}
+use Rattle.mr_base.specs.declared.refusals.Refusal.TheVariants as refusal
+use Rattle.mr_replica.proofs.Dues.{due_step, is_known_to, unknown_room}
 use Rattle.mr_replica.proofs.desk.Desk.submit.Goals as goal
 
 pub returns-in-Ok-clause-step : goal.returns-in-Ok-clause-step
@@ -34,3 +37,9 @@ returns-in-Ok-clause-told c = λ a h.
     let part = subst (λ (q : Request). IsPartOf c.in-Ok.part (InRoom q.room) a) c.request.view_is (c.in-Ok.ensures.part a h) in
     told_on (λ (done : Id × ChangeView). outcome_in q (submit_request q a).replica done.0 ≡ put_outcome done.1.booking done.1.errorlog) _
     c.submit.result c.changed_by.result c.changed_by.ensures.made (c.submit.ensures.told a h.sound part)
+
+pub returns-then-not-knows-clause-step : goal.returns-then-not-knows-clause-step
+returns-then-not-knows-clause-step c =
+    due_step (submit_request c.args.request) (λ a (done : Id × ChangeView). outcome_in c.args.request a done.0) c.args.self.now refusal.UnknownRoom
+    (λ a h. unknown_room c.args.request a
+    (subst (λ (q : Request). knows_room a q.room ≡ false) c.request.view_is (is_known_to c.request.inside.room a c.self.view_is h.are c.knows.ensures ∙ c.if-not-knows.true)))

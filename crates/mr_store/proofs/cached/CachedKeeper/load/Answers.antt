@@ -1,7 +1,7 @@
 use Rattle.std.specs.Prelude.{IfOk}
 use Rattle.mr_model.specs.Replica.{Replica}
 use Rattle.mr_model.specs.Tables.{Stands}
-use Rattle.mr_replica.specs.Desk.{StandsFor}
+use Rattle.mr_replica.specs.Desk.{StandsFor, IsWithinLimits}
 use Rattle.mr_store.proofs.Remembered.{followed, of_keeper, of_memory, remembered}
 use Rattle.mr_store.proofs.Told.{passed_on}
 use Rattle.mr_store.proofs.cached.CachedKeeper.load.Goals as goal
@@ -30,3 +30,6 @@ returns-clause-loaded g c =
 pub invariant_of-self-then-is_failure : goal.invariant_of-self-then-is_failure
 invariant_of-self-then-is_failure g c =
     remembered g.K.Keeper c.self.inside.keeper c.load-then-is_failure.new.self c.load-then-is_failure.result c.self.inside.memory c.load-then-is_failure.ensures.quiet c.self.invariant
+
+pub returns-clause-within : goal.returns-clause-within
+returns-clause-within g c = passed_on IsWithinLimits c.load-loaded.result c.told-answer.result c.told-answer.ensures.ok c.told-answer.ensures.err c.load-loaded.ensures.within

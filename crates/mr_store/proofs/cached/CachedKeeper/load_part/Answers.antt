@@ -5,7 +5,7 @@ use Rattle.mr_model.specs.Tables.{Stands}
 use Rattle.mr_part.specs.NextId.{id_given}
 use Rattle.mr_part.specs.Parts.{IsPartOf}
 use Rattle.mr_part.specs.ScopeOf.{scope_of}
-use Rattle.mr_store.specs.Taken.{is_taken}
+use Rattle.mr_replica.specs.Taken.{is_taken}
 use Rattle.mr_store.proofs.Remembered.{followed, of_keeper, of_memory, remembered}
 use Rattle.mr_store.proofs.Told.{passed_on}
 use Rattle.mr_store.proofs.cached.CachedKeeper.load_part.Goals as goal

@@ -5,7 +5,7 @@ use Rattle.mr_part.specs.NextId.{id_given}
 use Rattle.mr_part.specs.Parts.{IsPartOf}
 use Rattle.mr_part.specs.ScopeOf.{scope_of}
 use Rattle.mr_tables.specs.Summary.{IsWithin}
-use Rattle.mr_store.specs.Taken.{is_taken}
+use Rattle.mr_replica.specs.Taken.{is_taken}
 use Rattle.mr_store.specs.KeeperCalls.{failures_after}
 use Rattle.mr_store.specs.KeeperLists.{ListsView}
 use Rattle.mr_store.proofs.Told.{passed_on, quiet_lists}

@@ -4,7 +4,7 @@ use Rattle.mr_model.specs.Tables.{Stands}
 use Rattle.mr_part.specs.NextId.{id_given}
 use Rattle.mr_part.specs.Parts.{IsPartOf}
 use Rattle.mr_part.specs.ScopeOf.{scope_of}
-use Rattle.mr_store.specs.Taken.{is_taken}
+use Rattle.mr_replica.specs.Taken.{is_taken}
 use Rattle.mr_store.proofs.tripped.TrippedKeeper.load_part.Goals as goal
 
 pub returns-clause-loaded : goal.returns-clause-loaded

@@ -1,2 +1,0 @@
-pub mod TableChanges
-pub mod Gaps

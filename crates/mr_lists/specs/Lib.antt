@@ -1,2 +1,0 @@
--- A reader of the contracts trusts RowsAround.
-pub mod RowsAround
