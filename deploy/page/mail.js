@@ -18,7 +18,6 @@ export function showMailField() {
 /** Whether what is filled in may stay: an address, or nothing. */
 export function isMailWell() {
   const address = filledIn();
-  byId('mail-word').textContent = '';
   if (!address || ADDRESS.test(address)) return true;
   complain('mail', 'That is no mail address of plain letters, as anna@example.org. Leave it empty for no mails.');
   return false;
@@ -31,10 +30,10 @@ export async function giveAddress({ id, state }) {
   try {
     await putText('/mail/' + id, state === 'booked' ? address : address + ' none');
     word.className = 'hint';
-    word.textContent = address + ' gets a mail each time that something becomes of request ' + id + '.';
+    word.textContent = 'What becomes of request ' + id + ' is mailed to that address.';
   } catch (fault) {
     if (!(fault instanceof Fault)) throw fault;
     word.className = 'error';
-    word.textContent = 'The address ' + address + ' was not taken for request ' + id + ' (' + fault.message + '): it gets no mails.';
+    word.textContent = 'The mail address was not taken for request ' + id + ' (' + fault.message + '): it gets no mails.';
   }
 }

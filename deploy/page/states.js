@@ -22,6 +22,7 @@ export const chipOf = (word, kind) => el('span', { className: 'state ' + kind },
 
 /** What came of the last press, in the form's own line and, as it lies behind the box, in words for a screen reader there. */
 export function report(words, isGood) {
+  byId('mail-word').textContent = '';
   byId('outcome').textContent = words;
   byId('outcome').className = words === '' ? '' : isGood ? 'good' : 'bad';
 }
