@@ -58,8 +58,8 @@ sub count_room {
         my $it = $withdrawn{$1} ? undef : $count->($2);
         $it->{no_room}++ if $it;
     }
-    for my $item (grep { $_->{room} eq $room and $_->{from} =~ /^$DAY/ } @$news) {
-        my $it = $count->(substr $item->{from}, 0, 10);
+    for my $item (grep { $_->{room} eq $room } @$news) {
+        my $it = $count->($item->{from});
         $it->{ $item->{kind} }++ if $it;
     }
 }

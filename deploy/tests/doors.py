@@ -8,6 +8,7 @@ room-l, and calendars/west/here, the marks of who checked in.
 """
 
 import datetime
+import json
 import os
 import shutil
 import subprocess
@@ -225,6 +226,30 @@ def no_release_while_deaf():
     cancel_all('room-a')
 
 
+def settings_of_rooms():
+    """A room may have settings of its own; and where nobody can say who checked in, nothing goes."""
+    with open(rooms_json, 'w') as out:
+        json.dump({'office': 'West office', 'zone': ZONE, 'door': {'release': 10}, 'rooms': [{'name': 'room-a', 'label': 'Room A', 'door': {}},
+                                                                                           {'name': 'room-b', 'label': 'Room B', 'door': False}]}, out)
+    book('room-a', now()[1] - 1, 60, 'Its own way')
+    show('room-a')
+    page.until('a room without check-in', '#acts', 'End now')
+    check('asks for none', 'Check in' not in page.text('#acts'), page.text('#acts'))
+    show('room-b')
+    page.until('a room without buttons', '#word', 'Free')
+    time.sleep(0.5)
+    check('has none', page.text('#acts') == '', page.text('#acts'))
+    settings(door={'release': 10})
+    os.rename(HERE, HERE + '.away')
+    show('room-a')
+    page.until('without marks', '#acts', 'End now')
+    later(30)
+    time.sleep(1)
+    check('nothing is released', 'Its own way' in sheet('room-a'), sheet('room-a'))
+    os.rename(HERE + '.away', HERE)
+    cancel_all('room-a')
+
+
 def another_room():
     """The tablet of a room may do nothing at another one."""
     show('room-b')
@@ -241,7 +266,7 @@ try:
     page.open(f'{url}/door/room-a/cancel/1-1')      # asks for the tablet's password, and does nothing
     page.devtools('Page.enable')
     page.devtools('Page.addScriptToEvaluateOnNewDocument', source=CLOCK)
-    for step in (a_display, book_now, a_moment_late, check_in, release, no_release_while_deaf, another_room):
+    for step in (a_display, book_now, a_moment_late, check_in, release, no_release_while_deaf, settings_of_rooms, another_room):
         skew = 0
         step()
     check('nothing in the console of the browser', not [line for line in page.log() if 'Failed to load resource' not in line], page.log())

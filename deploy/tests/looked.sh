@@ -84,8 +84,17 @@ report_db() {
     "$program" book "$1" oak 60 2027-03-01 09:30 'Withdrawn' > /dev/null
     "$program" cancel "$1" oak 1-5 > /dev/null
     for day in 05 06 07 08 09 12 13 14; do "$program" book "$1" elm 600 "2027-04-$day" 08:00 "Day $day" > /dev/null; done
-    printf 'item\t0\t1\t1-1.1\t%s\t1-1\t%s\tT\t%s 09:00-10:00\t-\t-\t-\tTitle\n' moved oak 2027-03-01 moved oak 2027-03-01 lost elm 2027-04-06 \
-        final oak 2027-03-01 > "$ROOMS_STATE/west/news"
+    news_item() {
+        printf '{"key":"1-1.%s","id":"1-1","room":"%s","title":"a \\",\\"kind\\":\\"moved\\"","kind":"%s","from":%s,"to":null,"by":null,"mark":"T","found":"2027-01-01T00:00:00Z"}' "$@"
+    }
+    {
+        echo '{"office":"west","server":1,"made":"2027-01-01T00:00:00Z","items":['
+        news_item 1 oak moved '{"day":"2027-03-01","start":"09:00","stop":"10:00"}' && echo ,
+        news_item 2 oak moved '{"day":"2027-03-01","start":"09:00","stop":"10:00"}' && echo ,
+        news_item 3 elm lost '{"day":"2027-04-06","start":"09:00","stop":"10:00"}' && echo ,
+        news_item 4 elm lost null && echo ,
+        news_item 5 oak final '{"day":"2027-03-01","start":"09:00","stop":"10:00"}' && echo ']}'
+    } > "$ROOMS_CALENDARS/west/news.json"
 }
 
 deploy_report() {
