@@ -38,7 +38,7 @@ refused_offices() {
     refuses 'a room twice' 1 'the room elm stands there twice' make east 2 1 $((port + 2)) $((port + 3)) elm oak elm
     refuses 'a name that is none' 1 "a name is a letter and at most 15 letters and digits, not 'East'" make East 2 1 $((port + 2)) $((port + 3)) oak
     refuses 'too few words' 2 'the words are: make NAME SERVER PRIMARY PORT TLS ROOM.. (rooms-office --help has them all)' make east 2 1
-    refuses 'no verb' 2 'the words are: make, rooms, add-room, user, secret, remove, rescue, anew, pack, unpack, serve, backup, carry or watch, and what each needs (rooms-office --help has them all)' other
+    refuses 'no verb' 2 'the words are: make, rooms, add-room, user, secret, remove, rescue, anew, pack, unpack, serve, backup, mail, carry or watch, and what each needs (rooms-office --help has them all)' other
     python3 -c "import http.server; http.server.HTTPServer(('127.0.0.1', $((port + 2))), http.server.SimpleHTTPRequestHandler).serve_forever()" 2> /dev/null &
     serving+=($!)
     reached 'nothing listens' 10 taken $((port + 2))
