@@ -455,6 +455,12 @@ deploy_stretches() {
     through 'the calendar of all rooms' 200 readers /all_rooms.ics
     body 'as it was written' "$(cat "$ROOMS_CALENDARS/west/all_rooms.ics")"
     through 'a file beside the calendars' 404 readers /.seen
+    held 'figures are written there too' until_held 30 grep -q '^oak,' "$ROOMS_CALENDARS/west/figures.csv"
+    through 'the figures' 200 readers /figures.csv
+    touch -d '3 days ago' "$ROOMS_CALENDARS/west/here/oak.1-1"
+    touch "$ROOMS_CALENDARS/west/here/oak.1-2"
+    held 'a mark of days ago that somebody checked in goes' until_held 30 test ! -e "$ROOMS_CALENDARS/west/here/oak.1-1"
+    held 'and no other' test -e "$ROOMS_CALENDARS/west/here/oak.1-2"
     held 'the called office knows who called' until_held 10 grep -q '"peers":\[\],"callers":\[{"name":"offices","met":"20' "$ROOMS_CALENDARS/west/status.json"
     held 'the calling office knows whom it met' until_held 10 grep -q '"peers":\[{"name":"west","met":"20[^"]*","fault":null}\],"callers":\[' "$ROOMS_CALENDARS/east/status.json"
     through 'how the office stands to the others' 200 readers /status.json
