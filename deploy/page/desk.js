@@ -2,9 +2,9 @@
 // and shows every text of theirs as text. `rooms.json` names the rooms.
 //
 // texts.js has what needs no reply, office.js asks; over them stand states.js, cancel.js and box.js (any request), mine.js over follow.js
-// (this browser's own), offers.js and wish.js under form.js (what is asked for), anyroom.js over find.js and needs.js,
-// grid.js, month.js, coming.js and search.js (looking), newslist.js over news.js, and this file.
+// (this browser's own), offers.js and wish.js under form.js (what is asked for), grid.js, find.js, newslist.js over news.js, and this file.
 // Each of the lower ones reaches the page as a whole by `page` of office.js.
+// Views beside the grid: month.js, coming.js, find.js over needs.js, with anyroom.js, and search.js; ahead.js says which of their sheets are asked for.
 import { byId, el, dayBeside, FIRST, isDay, LAST, MIDNIGHT, put, timeOf, weekday } from './texts.js';
 import { Fault, askErrors, askOffice, askSheet, at, clock, labelOf, missed, momentOf, now, office, page, sheetOf, silence } from './office.js';
 import { closeBox } from './box.js';

@@ -7,13 +7,13 @@ deploy=$(cd -- "$(dirname -- "${BASH_SOURCE[0]}")/.." && pwd)
 . "$deploy/tests/helpers.sh"
 . "$deploy/tests/offices.sh"
 . "$deploy/tests/lines.sh"
+. "$deploy/tests/looked.sh"
 . "$deploy/tests/rescue.sh"
 . "$deploy/tests/trips.sh"
 . "$deploy/tests/watched.sh"
 . "$deploy/tests/poor_week.sh"
 . "$deploy/tests/news.sh"
 . "$deploy/tests/together.sh"
-. "$deploy/tests/looked.sh"
 
 # ---- texts that go with the program
 
@@ -107,9 +107,10 @@ deploy_offices() {
     is 'a list that is not there' "$("$deploy/systemd/rooms-office" user desk west.conf <<< desk 2>&1)" \
         "rooms-office: no list is named 'west.conf'"
     sed -i "s,/var/cache/rooms,$ROOMS_CALENDARS,g; s,/var/log/nginx,$deploy_scratch," "$ROOMS_ETC"/*.nginx
-    mkdir -p "$ROOMS_CALENDARS"/{west,east}/{told,callers,elsewhere,here}
+    mkdir -p "$ROOMS_CALENDARS"/{west,east}/{told,callers,elsewhere}
     # a machine without IP version 6
     if [ ! -e /proc/net/if_inet6 ]; then sed -i '/listen \[::\]/d' "$ROOMS_ETC"/*.nginx; fi
+    mkdir -p "$ROOMS_CALENDARS"/{west,east}/here
     west=$ROOMS_STATE/west/rooms.db
     east=$ROOMS_STATE/east/rooms.db
 }
@@ -217,6 +218,7 @@ deploy_proxy() {
     through 'the display at a door' 200 readers /door.html
     through 'the display without a password' 401 '' /door.html
     through 'the rooms of the office' 200 readers /rooms.json
+    deploy_feeds
     through 'a reader who books' 401 readers /submit -d "$json"
     through 'a reader who cancels' 401 readers /cancel -d "$cancel"
     through 'a cancel without a password' 401 '' /cancel -d "$cancel"
@@ -238,7 +240,6 @@ deploy_proxy() {
     through 'a body that is too large' 413 bookers /submit --data-binary "@$deploy_scratch/large" -H 'Expect:'
     through 'a path that is not served' 404 readers /calendar
     deploy_marks
-    deploy_feeds
     through 'the position of an office' 200 offices /position
     is 'who called' "$(ls "$ROOMS_CALENDARS/west/callers")" offices
     held 'and in the log of all' grep -q ' offices .*"GET /position HTTP/1.1" 200 ' "$deploy_scratch/access.log"
