@@ -84,7 +84,7 @@ async function round() {
     for (const { room, day } of OTHERS[at.view] ? due(wanted()) : wanted()) {
       await askSheet(room, day);
       if (number !== rounds) return;
-      if (day !== at.day) show();
+      if (OTHERS[at.view] && day !== at.day) show();
     }
     await askMine(begun);
     if (byId('log').open) showErrors({ room: at.room, lines: await askErrors(at.room) });
