@@ -3,9 +3,9 @@
 //
 // texts.js has what needs no reply, office.js asks; over them stand states.js, cancel.js and box.js (any request), mine.js over follow.js
 // (this browser's own), offers.js, mail.js and wish.js under form.js (what is asked for), many.js (many at once), move.js over moving.js
-// and movelist.js (changes), anyroom.js over find.js and needs.js, grid.js, month.js, coming.js and search.js (looking),
-// newslist.js over news.js, and this file.
+// and movelist.js (changes), grid.js, newslist.js over news.js, and this file.
 // Each of the lower ones reaches the page as a whole by `page` of office.js.
+// Views beside the grid: month.js, coming.js, find.js over needs.js, with anyroom.js, and search.js; ahead.js says which of their sheets are asked for.
 import { byId, el, dayBeside, FIRST, isDay, LAST, MIDNIGHT, put, timeOf, weekday } from './texts.js';
 import { Fault, askErrors, askOffice, askSheet, at, clock, labelOf, missed, momentOf, now, office, page, sheetOf, silence } from './office.js';
 import { closeBox } from './box.js';
@@ -89,7 +89,7 @@ async function round() {
     for (const { room, day } of OTHERS[at.view] ? due(wanted()) : wanted()) {
       await askSheet(room, day);
       if (number !== rounds) return;
-      if (day !== at.day) show();
+      if (OTHERS[at.view] && day !== at.day) show();
     }
     await askMine(begun);
     await askMoves();

@@ -39,7 +39,8 @@ export class Fault extends Error {
   constructor(sent, words) { super(words); this.sent = sent; }
 }
 
-async function fetched(path, body, method = body === undefined ? 'GET' : 'POST') {
+/** Whatever reply comes. */
+export async function fetched(path, body, method = body === undefined ? 'GET' : 'POST') {
   try {
     const words = { cache: 'no-store', signal: AbortSignal.timeout(PATIENCE), method, body };
     // the address of the page may have a user and a password in it, which no address to be fetched may have
@@ -98,17 +99,9 @@ export async function askFile(path) {
 }
 
 /** Puts a mark that all desks of the office see. It may be put again. */
-export const putMark = path => putText(path, '');
-
-/** Puts a text where the office's service finds it, or a mark. */
-export async function putText(path, text) {
+export async function putMark(path) {
   await askMayBook();
-  await putFile(path, text);
-}
-
-/** Has the proxy write a file. */
-export async function putFile(path, text) {
-  const reply = await fetched(path, text, 'PUT');
+  const reply = await fetched(path, '', 'PUT');
   if (reply.status === 401 || reply.status === 403) throw new Fault(false, 'the password was refused');
   if (reply.status !== 201 && reply.status !== 204) throw new Fault(true, 'status ' + reply.status);
 }

@@ -7,13 +7,13 @@ deploy=$(cd -- "$(dirname -- "${BASH_SOURCE[0]}")/.." && pwd)
 . "$deploy/tests/helpers.sh"
 . "$deploy/tests/offices.sh"
 . "$deploy/tests/lines.sh"
+. "$deploy/tests/looked.sh"
 . "$deploy/tests/rescue.sh"
 . "$deploy/tests/trips.sh"
 . "$deploy/tests/watched.sh"
 . "$deploy/tests/poor_week.sh"
 . "$deploy/tests/news.sh"
 . "$deploy/tests/together.sh"
-. "$deploy/tests/looked.sh"
 . "$deploy/tests/mail.sh"
 . "$deploy/tests/many.sh"
 
@@ -115,9 +115,10 @@ deploy_offices() {
     is 'a list that is not there' "$("$deploy/systemd/rooms-office" user desk west.conf <<< desk 2>&1)" \
         "rooms-office: no list is named 'west.conf'"
     sed -i "s,/var/cache/rooms,$ROOMS_CALENDARS,g; s,/var/log/nginx,$deploy_scratch," "$ROOMS_ETC"/*.nginx
-    mkdir -p "$ROOMS_CALENDARS"/{west,east}/{told,groups,callers,elsewhere,here,mail}
+    mkdir -p "$ROOMS_CALENDARS"/{west,east}/{told,groups,callers,elsewhere,mail}
     # a machine without IP version 6
     if [ ! -e /proc/net/if_inet6 ]; then sed -i '/listen \[::\]/d' "$ROOMS_ETC"/*.nginx; fi
+    mkdir -p "$ROOMS_CALENDARS"/{west,east}/here
     west=$ROOMS_STATE/west/rooms.db
     east=$ROOMS_STATE/east/rooms.db
 }
@@ -270,6 +271,7 @@ deploy_proxy() {
     through 'the display at a door' 200 readers /door.html
     through 'the display without a password' 401 '' /door.html
     through 'the rooms of the office' 200 readers /rooms.json
+    deploy_feeds
     through 'a reader who books' 401 readers /submit -d "$json"
     through 'a reader who cancels' 401 readers /cancel -d "$cancel"
     through 'a cancel without a password' 401 '' /cancel -d "$cancel"
@@ -293,7 +295,6 @@ deploy_proxy() {
     deploy_marks
     deploy_addresses
     deploy_groups
-    deploy_feeds
     through 'the position of an office' 200 offices /position
     is 'who called' "$(ls "$ROOMS_CALENDARS/west/callers")" offices
     held 'and in the log of all' grep -q ' offices .*"GET /position HTTP/1.1" 200 ' "$deploy_scratch/access.log"
@@ -527,6 +528,12 @@ deploy_stretches() {
     through 'the calendar of all rooms' 200 readers /all_rooms.ics
     body 'as it was written' "$(cat "$ROOMS_CALENDARS/west/all_rooms.ics")"
     through 'a file beside the calendars' 404 readers /.seen
+    held 'figures are written there too' until_held 30 grep -q '^oak,' "$ROOMS_CALENDARS/west/figures.csv"
+    through 'the figures' 200 readers /figures.csv
+    touch -d '3 days ago' "$ROOMS_CALENDARS/west/here/oak.1-1"
+    touch "$ROOMS_CALENDARS/west/here/oak.1-2"
+    held 'a mark of days ago that somebody checked in goes' until_held 30 test ! -e "$ROOMS_CALENDARS/west/here/oak.1-1"
+    held 'and no other' test -e "$ROOMS_CALENDARS/west/here/oak.1-2"
     held 'the called office knows who called' until_held 10 grep -q '"peers":\[\],"callers":\[{"name":"offices","met":"20' "$ROOMS_CALENDARS/west/status.json"
     held 'the calling office knows whom it met' until_held 10 grep -q '"peers":\[{"name":"west","met":"20[^"]*","fault":null}\],"callers":\[' "$ROOMS_CALENDARS/east/status.json"
     through 'how the office stands to the others' 200 readers /status.json
