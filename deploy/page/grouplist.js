@@ -75,11 +75,18 @@ async function cancelItem(item, counts) {
 
 // ---- what is shown
 
+function chipOfItem(item, outcome) {
+  if (!item.id) return chipOf('Perhaps booked', 'none');
+  if (outcome === undefined) return chipOf('Asking', 'open');
+  const isWithdrawn = item.state === 'cancelled' && outcome?.state === 'logged', [word, kind] = stateOf(outcome, isWithdrawn ? 'a cancel' : '');
+  return chipOf(word, kind);
+}
+
 function rowOf(item) {
-  const outcome = outcomes.get(keyOf(item)), isMoved = outcome && outcome.state === 'booked' && (outcome.day !== item.day || outcome.start !== item.start);
-  const [word, kind] = !item.id ? ['Perhaps booked', 'none'] : outcome === undefined ? ['Asking', 'open'] : stateOf(outcome, item.state === 'cancelled' && outcome?.state === 'logged' ? 'a cancel' : '');
-  return el('li', {}, chipOf(word, kind), ' ' + weekday(item.day, 'short') + ' ' + item.day + ' ' + hoursText(minuteOf(item.start), minuteOf(item.start) + item.length) + ', ' +
-    labelOf(item.room) + ', ' + item.title + (item.id ? ', request ' + item.id : ''), isMoved ? el('b', {}, ', now ' + outcome.day + ' ' + outcome.start) : null);
+  const { room, day, start, length, title, id } = item, outcome = outcomes.get(keyOf(item)), from = minuteOf(start);
+  const isMoved = outcome && outcome.state === 'booked' && (outcome.day !== day || outcome.start !== start);
+  const words = ' ' + weekday(day, 'short') + ' ' + day + ' ' + hoursText(from, from + length) + ', ' + labelOf(room) + ', ' + title + (id ? ', request ' + id : '');
+  return el('li', {}, chipOfItem(item, outcome), words, isMoved ? el('b', {}, ', now ' + outcome.day + ' ' + outcome.start) : null);
 }
 
 function toggle(group) {
@@ -90,27 +97,30 @@ function toggle(group) {
   showGroups();
 }
 
-function keyed(name, words, act, properties) {
-  const button = buttonOf(words, act, properties);
-  button.dataset.key = name;
+function keyed(name, group, words, act, properties) {
+  const button = buttonOf(words, act, { ...properties, 'aria-label': words + ': ' + group.title });
+  button.dataset.key = name + ' ' + group.name;
   return button;
 }
 
 function itemOf(group) {
-  const days = group.items.map(item => item.day).sort(), isOpen = opened.has(group.name), left = group.items.filter(item => item.id && item.state !== 'cancelled' && item.day >= now().day);
-  const isAt = work.name === group.name;
-  return el('section', { className: 'group', 'aria-label': group.title }, el('h3', {}, group.title),
-    el('p', {}, countOf(group.items) + ', ' + days[0] + ' to ' + days.at(-1) + (left.length ? '' : '; none of them stands from today on') + '.'),
+  const days = group.items.map(item => item.day).sort(), isOpen = opened.has(group.name), isAt = work.name === group.name;
+  const left = group.items.filter(item => item.id && item.state !== 'cancelled' && item.day >= now().day);
+  const words = countOf(group.items) + ', ' + days[0] + ' to ' + days.at(-1) + (left.length ? '' : '; none of them stands from today on') + '.';
+  const cancel = isAt ? keyed('stop', group, 'Stop', () => { work.isStopped = true; })
+    : left.length ? keyed('all', group, 'Cancel all ' + left.length, () => cancelGroup(group), { className: 'cancel' }) : null;
+  return el('section', { className: 'group', 'aria-label': group.title }, el('h3', {}, group.title), el('p', {}, words),
     isAt ? el('p', {}, el('progress', { max: work.of, value: work.done, 'aria-label': 'Cancelled' }), ' ' + work.done + ' of ' + work.of) : null,
-    el('p', { className: 'buttons' }, keyed('show ' + group.name, isOpen ? 'Hide them' : 'Show them', () => toggle(group), { 'aria-expanded': isOpen, 'aria-label': (isOpen ? 'Hide: ' : 'Show: ') + group.title }),
-      isAt ? keyed('stop ' + group.name, 'Stop', () => { work.isStopped = true; })
-        : left.length ? keyed('all ' + group.name, 'Cancel all ' + left.length, () => cancelGroup(group), { className: 'cancel', 'aria-label': 'Cancel all ' + left.length + ': ' + group.title }) : null),
+    el('p', { className: 'buttons' }, keyed('show', group, isOpen ? 'Hide them' : 'Show them', () => toggle(group), { 'aria-expanded': isOpen }), cancel),
     isOpen ? el('ul', {}, ...group.items.map(rowOf)) : null);
 }
 
 export function showGroups() {
   const held = document.activeElement && document.activeElement.dataset.key, place = byId('groups');
-  const words = !groups.isThere ? 'This office keeps no groups: its proxy is an older one.' : groups.list.length ? 'What was asked for together, at this office.' : 'None yet.';
-  renew(place, el('p', { className: 'hint' }, words), el('p', { role: 'status', className: 'good' }, work.words), ...groups.list.filter(group => group.items.length).map(itemOf));
-  if (held && document.activeElement === document.body) ([...place.querySelectorAll('[data-key]')].find(each => each.dataset.key === held) || byId('many-title')).focus();
+  const some = groups.list.length ? 'What was asked for together, at this office.' : 'None yet.';
+  const words = groups.isThere ? some : 'This office keeps no groups: its proxy is an older one.';
+  renew(place, el('p', { className: 'hint' }, words), el('p', { role: 'status', className: 'good' }, work.words),
+    ...groups.list.filter(group => group.items.length).map(itemOf));
+  if (!held || document.activeElement !== document.body) return;
+  ([...place.querySelectorAll('[data-key]')].find(each => each.dataset.key === held) || byId('many-title')).focus();
 }

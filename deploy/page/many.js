@@ -4,7 +4,7 @@ import { byId, el, buttonOf, isDay, put, weekday } from './texts.js';
 import { Fault, at, labelOf, office, page } from './office.js';
 import { sendCancel } from './cancel.js';
 import { fillFile, startFile } from './filepart.js';
-import { askGroups } from './groups.js';
+import { askGroups, contentOf } from './groups.js';
 import { showGroups } from './grouplist.js';
 import { alone, dropRun, readRun } from './journal.js';
 import { itemOf, look, STATES } from './plan.js';
@@ -107,20 +107,31 @@ async function ended() {
 
 /** A free slot instead: before it was asked for, the item takes it; afterwards it is asked for, and the request without a room is withdrawn. */
 async function takeSlot(item, slot) {
+  const key = item.key || contentOf(item);
   if (item.state === 'clash') {
-    Object.assign(item, slot, { state: 'free', words: '', isWanted: true });
+    Object.assign(item, slot, { key, state: 'free', words: '', isWanted: true });
     return showPlan();
   }
-  const first = { room: item.room, title: item.title, now: { id: item.id, state: 'logged', mark: item.mark || 'T' }, withdrawn: '' };
-  const next = { ...item, ...slot, id: '', state: 'free', words: '', isWanted: true };
-  run.items.splice(run.items.indexOf(item), 1, next);
-  for (const each of run.items) if (each !== next) each.isWanted = false;
+  const next = { ...item, ...slot, key, id: '', state: 'free', words: '', isWanted: true }, ticked = run.items.filter(each => each.isWanted);
+  for (const each of ticked) each.isWanted = false;
+  run.items.splice(run.items.indexOf(item), 0, next);
   await go();
-  if (next.state !== 'booked' || first.now.mark !== 'T') return;
-  const words = await sendCancel(first);
-  if (!words) run.trouble = 'The request before, ' + first.now.id + ', is not withdrawn, and may still be booked too';
-  next.words = words ? 'Instead of request ' + first.now.id + ', which is withdrawn' : '';
+  for (const each of ticked) each.isWanted = true;
+  if (next.state === 'booked') await withdraw(item, next);
   showPlan();
+}
+
+/** Another request is booked in the place of one without a room, which gets none any more. */
+async function withdraw(item, next) {
+  const first = { room: item.room, title: item.title, now: { id: item.id, state: 'logged', mark: item.mark || 'T' }, withdrawn: '' };
+  if (first.now.mark === 'T' && !await sendCancel(first)) {
+    run.trouble = 'The request before, ' + item.id + ', is not withdrawn, and may still be booked too';
+    return;
+  }
+  run.items.splice(run.items.indexOf(item), 1);
+  next.words = 'Instead of request ' + item.id + (first.withdrawn ? ', which is withdrawn' : '');
+  await keep();
+  if (!run.keepTrouble) dropRun();
 }
 
 function wordsOfPlan() {
@@ -131,13 +142,32 @@ function wordsOfPlan() {
   return run.items.length + ' in the list: ' + parts.join('; ') + '.';
 }
 
+function keyed(name, words, act, properties) {
+  const button = buttonOf(words, act, properties);
+  button.dataset.key = name;
+  return button;
+}
+
 function buttonsOfPlan() {
-  const wanted = wantedOf(run.items).length, unsure = run.items.filter(item => item.state === 'perhaps'), key = (name, button) => { button.dataset.key = name; return button; };
-  if (run.isGoing || isLooking) return [key('stop', buttonOf('Stop', () => { run.isStopped = isStopped = true; }))];
-  return [wanted ? key('ask', buttonOf('Ask for ' + wanted, go, { className: 'main' })) : null,
-    unsure.length ? key('unsure', buttonOf('Look whether it is there', async () => { for (const item of unsure) await lookAgain(item); run.trouble = ''; await keep(); showPlan(); })) : null,
-    run.keepTrouble ? key('keep', buttonOf('Keep the group again', async () => { await keep(); if (!run.keepTrouble) dropRun(); showPlan(); })) : null,
-    wanted ? key('again', buttonOf('Look again', lookAgainAtAll)) : null, key('away', buttonOf('Put the list away', putAway))].filter(button => button);
+  const wanted = wantedOf(run.items).length, unsure = run.items.filter(item => item.state === 'perhaps');
+  if (run.isGoing || isLooking) return [keyed('stop', 'Stop', () => { run.isStopped = isStopped = true; })];
+  return [wanted ? keyed('ask', 'Ask for ' + wanted, go, { className: 'main' }) : null,
+    unsure.length ? keyed('unsure', 'Look whether it is there', () => lookForUnsure(unsure)) : null,
+    run.keepTrouble ? keyed('keep', 'Keep the group again', keepAgain) : null,
+    wanted ? keyed('again', 'Look again', lookAgainAtAll) : null, keyed('away', 'Put the list away', putAway)].filter(button => button);
+}
+
+async function lookForUnsure(items) {
+  for (const item of items) await lookAgain(item);
+  run.trouble = '';
+  await keep();
+  showPlan();
+}
+
+async function keepAgain() {
+  await keep();
+  if (!run.keepTrouble) dropRun();
+  showPlan();
 }
 
 async function putAway() {

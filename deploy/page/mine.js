@@ -59,7 +59,8 @@ export function dropMine(...entries) {
 
 /** A request took the place of another one, which leaves the list. */
 export function adoptMine(old, { room, title, day, start, length }, outcome) {
-  mine = mine.filter(each => each.room !== old.room || !each.now || each.now.id !== old.id);
+  const isIt = (entry, where, id) => entry.room === where && entry.now && entry.now.id === id;
+  mine = mine.filter(each => !isIt(each, old.room, old.id) && !isIt(each, room, outcome.id));
   mine.unshift({ room, title, wish: { day, start }, length, sent: new Date().toISOString() + Math.random(), first: outcome, now: { ...outcome } });
   keepMine();
 }

@@ -1,5 +1,5 @@
 // The form in which a booking is moved, lengthened, shortened or renamed. It says what is in the way and what may be lost before anything is sent.
-import { byId, el, buttonOf, hoursText, isDay, isPlain, minuteOf, plainOf, put, renew, weekday } from './texts.js';
+import { byId, el, buttonOf, FIRST, hoursText, isDay, isPlain, LAST, minuteOf, plainOf, put, renew, weekday } from './texts.js';
 import { Fault, labelOf, office, page } from './office.js';
 import { askMoves } from './movelist.js';
 import { inTheWay, isSame, lossWords, move } from './moving.js';
@@ -12,22 +12,34 @@ let old = null, way = '', free = [], isAtWork = false, result = null, asked = 0;
 
 const stopOf = ({ start, length }) => minuteOf(start) + length;
 
-export function openMove(booking) {
-  [old, way, free, isAtWork, result] = [booking, '', [], false, null];
-  const input = (id, words, properties) => el('label', {}, words, ' ', el('input', { id: 'move-' + id, ...properties }));
-  const rooms = el('select', { id: 'move-room' }, ...office.rooms.map(room => el('option', { value: room.name, selected: room.name === old.room }, labelOf(room.name))));
-  const form = el('form', { noValidate: true, autocomplete: 'off' }, el('h2', { id: 'move-title' }, 'Change: ' + old.title),
-    el('p', { className: 'hint' }, labelOf(old.room) + ', ' + weekday(old.day) + ' ' + old.day + ', ' + hoursText(minuteOf(old.start), stopOf(old)) + ', request ' + old.id + '.'),
-    el('p', { className: 'fields' }, el('label', {}, 'Room ', rooms), input('day', 'Day', { type: 'date', value: old.day, min: '1990-01-01', max: '2099-12-31' }),
-      input('start', 'Start', { type: 'time', value: old.start }), input('length', 'Length in minutes', { inputMode: 'numeric', size: 5, value: String(old.length) }),
-      input('name', 'Title', { size: 30, value: old.title })),
-    el('p', { id: 'move-loss', className: 'hint' }), el('p', { id: 'move-way', className: 'error', role: 'status' }), el('p', { id: 'move-free', className: 'buttons' }),
-    el('p', { id: 'move-outcome', role: 'status' }),
-    el('p', { className: 'buttons' }, el('button', { type: 'submit', id: 'move-send', className: 'main' }, 'Change it'), buttonOf('Close', () => byId('move').close(), { id: 'move-close' })));
+const hoursOf = slot => hoursText(minuteOf(slot.start), stopOf(slot));
+
+const inputOf = (id, words, properties) => el('label', {}, words, ' ', el('input', { id: 'move-' + id, ...properties }));
+
+/** What can be changed, as it is. */
+function fieldsOf() {
+  const options = office.rooms.map(({ name }) => el('option', { value: name, selected: name === old.room }, labelOf(name)));
+  return el('p', { className: 'fields' }, el('label', {}, 'Room ', el('select', { id: 'move-room' }, ...options)),
+    inputOf('day', 'Day', { type: 'date', value: old.day, min: FIRST, max: LAST }), inputOf('start', 'Start', { type: 'time', value: old.start }),
+    inputOf('length', 'Length in minutes', { inputMode: 'numeric', size: 5, value: String(old.length) }), inputOf('name', 'Title', { size: 30, value: old.title }));
+}
+
+function formOf() {
+  const words = labelOf(old.room) + ', ' + weekday(old.day) + ' ' + old.day + ', ' + hoursOf(old) + ', request ' + old.id + '.';
+  const form = el('form', { noValidate: true, autocomplete: 'off' }, el('h2', { id: 'move-title' }, 'Change: ' + old.title), el('p', { className: 'hint' }, words),
+    fieldsOf(), el('p', { id: 'move-loss', className: 'hint' }), el('p', { id: 'move-way', className: 'error', role: 'status' }),
+    el('p', { id: 'move-free', className: 'buttons' }), el('p', { id: 'move-outcome', role: 'status' }),
+    el('p', { className: 'buttons' }, el('button', { type: 'submit', id: 'move-send', className: 'main' }, 'Change it'),
+      buttonOf('Close', () => byId('move').close(), { id: 'move-close' })));
   form.addEventListener('submit', send);
   form.addEventListener('change', lookAround);
   form.addEventListener('input', show);
-  byId('move').replaceChildren(form);
+  return form;
+}
+
+export function openMove(booking) {
+  [old, way, free, isAtWork, result] = [booking, '', [], false, null];
+  byId('move').replaceChildren(formOf());
   byId('move').oncancel = event => { if (isAtWork) event.preventDefault(); };
   byId('move').showModal();
   show();
@@ -64,7 +76,7 @@ async function lookAround() {
 function show() {
   const { wish, trouble } = read(), isNothing = Boolean(wish) && isSame(old, wish);
   put({ 'move-way': trouble || way, 'move-loss': wish && !isNothing && !result ? lossWords(old, wish) : '' });
-  renew(byId('move-free'), ...free.map(slot => buttonOf(labelOf(slot.room) + ' ' + hoursText(minuteOf(slot.start), minuteOf(slot.start) + wish.length), () => takeSlot(slot))));
+  renew(byId('move-free'), ...free.map(slot => buttonOf(labelOf(slot.room) + ' ' + hoursOf({ ...slot, length: wish.length }), () => takeSlot(slot))));
   byId('move-send').disabled = isAtWork || Boolean(result) || !wish || isNothing;
   byId('move-close').disabled = isAtWork;
   for (const field of byId('move').querySelectorAll('input, select')) field.disabled = isAtWork || Boolean(result);

@@ -32,20 +32,25 @@ async function look(move) {
   return true;
 }
 
-const slotWords = slot => labelOf(slot.room) + ', ' + weekday(slot.day, 'short') + ' ' + slot.day + ' ' + hoursText(minuteOf(slot.start), minuteOf(slot.start) + slot.length);
+function slotWords({ room, day, start, length }) {
+  const from = minuteOf(start);
+  return labelOf(room) + ', ' + weekday(day, 'short') + ' ' + day + ' ' + hoursText(from, from + length);
+}
 
 /** What stands of a move, and the buttons that go with it. */
 function wordsOf(move, found) {
-  const { old, wish } = move, { stands, waiting } = standingOf(found), from = slotWords(old), to = slotWords(wish) + (wish.title === old.title ? '' : ', ' + wish.title);
+  const { old, wish } = move, { stands, waiting } = standingOf(found), { is } = found;
+  const from = slotWords(old), to = slotWords(wish) + (wish.title === old.title ? '' : ', ' + wish.title);
   const away = (words, act = () => forget(move)) => button(move, words, act);
   if (stands === 'both') {
-    return ['Both stand: ' + from + ' (request ' + old.id + ') and ' + to + ' (request ' + found.is.id + ').',
+    return ['Both stand: ' + from + ' (request ' + old.id + ') and ' + to + ' (request ' + is.id + ').',
       away('Cancel the old one', () => finish(move, found)), away('Cancel the new one', () => undo(move, found)), away('Leave both')];
   }
-  if (stands === 'new' && (found.is.day !== wish.day || found.is.start !== wish.start)) {
-    return [to + ' was taken. It has ' + slotWords({ ...wish, ...found.is }) + ', as request ' + found.is.id + ', and the old booking is gone.', away('All right', () => settle(move, found))];
+  if (stands === 'new') {
+    const isThere = is.day === wish.day && is.start === wish.start;
+    const words = isThere ? 'It was done: ' + to + ' is booked' : to + ' was taken. It has ' + slotWords({ ...wish, day: is.day, start: is.start });
+    return [words + ', as request ' + is.id + ', and the old booking is gone.', away('All right', () => settle(move, found))];
   }
-  if (stands === 'new') return ['It was done: ' + to + ' is booked, as request ' + found.is.id + ', and the old booking is gone.', away('All right', () => settle(move, found))];
   if (stands === 'old') {
     const words = 'It was not done: ' + from + ' stands as it was.';
     return waiting ? [words + ' The request for ' + to + ' has no room, and may still get one.', away('Withdraw that request', () => undo(move, found)), away('Leave it')]

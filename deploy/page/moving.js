@@ -130,16 +130,16 @@ export async function cancel({ room, id }) {
 }
 
 function moved(it, outcome, word) {
-  const words = word + ': ' + it.wish.title + ', ' + labelOf(it.wish.room) + ', ' + outcome.day + ' ' + hoursText(minuteOf(outcome.start), stopOf({ ...it.wish, start: outcome.start })) +
-    ', request ' + outcome.id + ', in the place of ' + it.old.id + '; not final yet.';
+  const at = slotWords({ ...it.wish, day: outcome.day, start: outcome.start });
+  const words = word + ': ' + it.wish.title + ', ' + at + ', request ' + outcome.id + ', in the place of ' + it.old.id + '; not final yet.';
   return ends(it, true, words, outcome);
 }
 
 /** The move is over. The new request, if there is one, stands in the old one's place among this browser's own and in the office's groups. */
 async function ends(it, isGood, words, outcome = null) {
+  const next = outcome ? { ...it.wish, day: outcome.day, start: outcome.start } : null;
+  if (next) adoptMine(it.old, next, outcome);
+  const lost = next ? await replaceInGroups(it.old, { ...next, id: outcome.id }) : '';
   dropMove(it);
-  if (!outcome) return { isGood, words };
-  adoptMine(it.old, { ...it.wish, start: outcome.start }, outcome);
-  const lost = await replaceInGroups(it.old, { ...it.wish, start: outcome.start, id: outcome.id });
   return { isGood, words: words + (lost ? ' The group that it is of has the old request still: ' + lost + '.' : '') };
 }

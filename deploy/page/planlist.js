@@ -37,7 +37,7 @@ function partOf(state, own, act, isGoing) {
 const whenOf = item => weekday(item.day, 'short') + ' ' + item.day + ' ' + hoursOfItem(item);
 
 function rowOf(item, act, isGoing) {
-  const isBad = item.state === 'bad', words = [item.line ? 'Line ' + item.line + ': ' : '', isBad ? item.title : whenOf(item) + ', ' + labelOf(item.room) + ', ' + item.title].join('');
+  const what = item.state === 'bad' ? item.title : whenOf(item) + ', ' + labelOf(item.room) + ', ' + item.title, words = (item.line ? 'Line ' + item.line + ': ' : '') + what;
   const said = [item.words, item.note].filter(each => each).join('; '), reason = said ? el('span', { className: 'hint' }, ' ' + said + '.') : null;
   if (!mayAsk(item) || isGoing) return el('li', {}, words, reason, offersOf(item, act, isGoing));
   const box = el('input', { type: 'checkbox', defaultChecked: item.isWanted, checked: item.isWanted });
@@ -58,7 +58,8 @@ function offersOf(item, act, isGoing) {
   if (!free.length) return el('span', { className: 'hint' }, ' Nothing of that length is free on that day.');
   return el('span', { className: 'buttons' }, ...free.map(slot => {
     const words = labelOf(slot.room) + ' ' + hoursText(minuteOf(slot.start), minuteOf(slot.start) + item.length);
-    const button = buttonOf(words, () => { offers.delete(item); act.take(item, slot); }, { 'aria-label': (item.state === 'none' ? 'Ask for ' : 'Take ') + item.day + ', ' + words });
+    const label = (item.state === 'none' ? 'Ask for ' : 'Take ') + item.day + ', ' + words;
+    const button = buttonOf(words, () => { offers.delete(item); act.take(item, slot); }, { 'aria-label': label });
     button.dataset.key = 'offer ' + item.day + words;
     return button;
   }));

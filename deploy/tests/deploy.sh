@@ -230,27 +230,6 @@ deploy_addresses() {
     rm "$ROOMS_CALENDARS/west/mail/1-17"
 }
 
-# groups of requests: files that readers read and bookers write
-deploy_groups() {
-    local group=/groups/2095-12-20.abcd1234 put=/groups/put/2095-12-20.abcd1234 text='{"title":"Jour fixe","items":[]}'
-    through 'a group that is not there' 404 readers "$group"
-    through 'a group by a reader' 401 readers "$put" -X PUT -d "$text"
-    through 'a group by another site' 403 bookers "$put" -X PUT -d "$text" -H 'Sec-Fetch-Site: cross-site'
-    through 'a group' 201 bookers "$put" -X PUT -d "$text"
-    through 'a group again' 204 bookers "$put" -X PUT -d "$text"
-    through 'a group is read' 200 readers "$group"
-    body 'as it was written' "$text"
-    through 'a group without a password' 401 '' "$group"
-    through 'a group is not removed' 403 bookers "$put" -X DELETE
-    through 'a group is not written where it is read' 403 readers "$group" -X PUT -d "$text"
-    through 'a group elsewhere' 403 bookers '/groups/put/..%2f2095-12-20.abcd1234' -X PUT -d "$text"
-    through 'a group of another name' 404 bookers /groups/put/jour-fixe -X PUT -d "$text"
-    head -c 4200000 /dev/zero > "$deploy_scratch/large"
-    through 'a group that is too large' 413 bookers "$put" -T "$deploy_scratch/large" -H 'Expect:'
-    through 'the groups' 200 readers /groups/
-    is 'their list' "$(python3 -c 'import json, sys; print([it["name"] for it in json.load(sys.stdin)])' < "$deploy_scratch/body")" "['2095-12-20.abcd1234']"
-}
-
 deploy_proxy() {
     local day=/rooms/oak/days/1995-12-18 json='{"room":"oak","day":"1995-12-18","start":"13:30","length":60,"title":"Budget Meeting"}'
     local cancel='{"id":"7-1","room":"oak"}' sheet='oak 1995-12-18 Monday
