@@ -10,7 +10,7 @@ use Rattle.sqlite_trees.proofs.ListLemmas.{IsPermutation-filter}
 use Rattle.mr_model.specs.Texts.{Text}
 use Rattle.mr_model.specs.Calendar.{Date}
 use Rattle.mr_model.specs.Writes.{Id, same_id}
-use Rattle.mr_model.specs.Tables.{BookingRow, ErrorRow, CancelledRow, CancelRow, Tables}
+use Rattle.mr_model.specs.Tables.{BookingRow, ErrorRow, CancelledRow, CancelRow}
 use Rattle.mr_model.specs.Queries.{booking_id, error_id, cancelled_id, cancel_id}
 use Rattle.mr_model.specs.Dropped.{Has}
 use Rattle.mr_model.proofs.Members.{all_has, same_id-true}

@@ -1,6 +1,5 @@
 -- What a scan picks, and a store from which it reads.
-use Rattle.std.specs.Prelude.{◌≡◌, ◌⊎◌, ℕ, Bool, true, false, bytes_eq, IsTrue}
-use Rattle.sqlite_disk.specs.Disk.{MoreFaults}
+use Rattle.std.specs.Prelude.{◌≡◌, Bool, true, false, bytes_eq}
 use Rattle.sqlite_value.specs.Order.{Row, column, bytes}
 use Rattle.sqlite_trees.specs.View.{View}
 use Rattle.mr_trees.specs.declared.rows.Picked.{Picked}

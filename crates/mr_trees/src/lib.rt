@@ -17,7 +17,6 @@ mod troubles;
 
 pub use opening::CopyOfTrees;
 pub use questions::query;
-pub use rows::{RoomRow, TreeRow};
 pub use tree_keeper::TreeKeeper;
 pub use troubles::Trouble;
 

@@ -2,7 +2,7 @@ use Rattle.std.proofs.Common.{◌≡◌, None, ap, subst, ◌∙◌, arith}
 use Rattle.std.proofs.lemmas.Result.{IfOk-weaker}
 use Rattle.sqlite_trees.specs.Tree.{Trees}
 use Rattle.sqlite_trees.specs.View.{View, IsClean}
-use Rattle.mr_store.specs.Picked.{find_booking, find_error, find_cancelled, IsPlaceOf}
+use Rattle.mr_store.specs.Picked.{find_booking, IsPlaceOf}
 use Rattle.mr_trees.specs.TreeTables.{tables_shown}
 use Rattle.mr_trees.proofs.TableLemmas.{booking_shown}
 use Rattle.mr_trees.proofs.places.place_of.Goals as goal
