@@ -97,7 +97,7 @@ It moved. Before, it had Tue 2030-03-05, 16:00 to 17:00. It is not final yet: un
     "$program" cancel "$north" oak 2-9 > /dev/null
     address 2-9 anna@localhost
     mail_round
-    is 'what was cancelled before a round saw it' "$(new_mails -t | head -n 3)" 'anna@localhost: Cancelled: Oak, 2nd floor | -
+    is 'what was cancelled before a round saw it' "$(new_mails -t | sed -n '1,3p')" 'anna@localhost: Cancelled: Oak, 2nd floor | -
 Request 2-9
 Oak, 2nd floor'
 }
@@ -301,7 +301,15 @@ mails sent: 1
     is 'comes once more, with the same Message-ID' "$(sends)" 'mails sent: 1
 -t -i late@localhost'
     is 'and no more' "$(sends)" ''
+    sed -i 's/^text=/if [ -e "$FOLDER\/slow" ]; then rm "$FOLDER\/slow"; sleep 300 \& echo $! > "$FOLDER\/behind"; fi; &/; s,\$FOLDER,'"$folder,g" "$folder/sendmail"
+    touch "$folder/slow"
     waits 11 anna@localhost
+    is 'a sendmail that goes on in the background holds up nothing' "$(sends; waits 12 anna@localhost; sends)" 'mails sent: 1
+-t -i anna@localhost
+mails sent: 1
+-t -i anna@localhost'
+    kill "$(cat "$folder/behind")"
+    waits 13 anna@localhost
     is 'without a sendmail' "$(ROOMS_SENDMAIL=$folder/none "$office" mail west 2>&1)" 'rooms-office: mails wait, and there is no sendmail'
     rm "$ROOMS_STATE"/west/mail/waiting/*
 }
@@ -343,7 +351,7 @@ an_mta() {
 # in_the_box LINE: such a one came, once the mails that wait are handed over
 in_the_box() {
     "$office" mail west > "$folder/said" 2>&1
-    [ -e "$post/box/box" ] && python3 -B "$deploy/tests/mail_read.py" "$post/box/box" | grep -qx -- "$1"
+    [ -e "$post/box/box" ] && python3 -B "$deploy/tests/mail_read.py" "$post/box/box" | grep -x -- "$1" > /dev/null
 }
 
 mails_through_an_mta() {
