@@ -1,7 +1,7 @@
 use Rattle.std.proofs.Common.{sym, subst}
 use Rattle.mr_store.specs.Answers.{IsAnswerTo}
-use Rattle.mr_store.specs.declared.questions.Question.{Question}
-use Rattle.mr_store.specs.declared.questions.Answer.TheVariants as told
+use Rattle.mr_replica.specs.declared.questions.Question.{Question}
+use Rattle.mr_replica.specs.declared.questions.Answer.TheVariants as told
 use Rattle.mr_trees.specs.TreeTables.{tables_shown}
 use Rattle.mr_trees.proofs.TableLemmas.{rooms_shown, errors_shown, cancelled_rows_shown, cancels_shown}
 use Rattle.mr_trees.proofs.questions.answer.Goals as goal
