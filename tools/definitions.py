@@ -22,7 +22,7 @@ import re
 # the name of what a block of a file declares, and the names that a line imports
 DECLARED = re.compile(r"^(?!--|use )(?:[a-z]+ )*([\w'-]+)(?: \{[^}\n]*\})? :", re.M)
 IMPORTED = re.compile(r"use [\w.]+\.\{(.*)\}$")
-UNEQUAL = re.compile(r"`[^`]*`: (?:as printed, |computed as far as they go, )?(?:the two (?:types|values|terms) |expected type `)")
+UNEQUAL = re.compile(r"`[^`]*`: (?:as printed, |computed as far as they go, )?(?:the two (?:types|values|terms|indices) |expected type `)")
 
 
 def text_of(file):
@@ -136,11 +136,11 @@ class Law:
         """The function's text below the imports that it needs, and its proof."""
         folder = self.crate.folder
         file, answers = f"{folder}/src/{module.replace('::', '/')}.rt", f"{folder}/proofs/{self.name.replace('::', '/')}/Answers.antt"
-        found = os.path.isfile(file) and re.search(rf"^pub fn {function}\(\)\n(?:    .*\n)*\{{\}}\n", text_of(file), re.M)
+        found = os.path.isfile(file) and re.search(rf"^pub fn {function}(?:<[^()\n]*>)?\(\)\n(?:    .*\n)*\{{\}}\n", text_of(file), re.M)
         if not found or not os.path.isfile(answers):
             return
         words = lambda text: set(re.findall(r"\w+", text))
-        imports = [it for it in re.findall(r"^ghost use .*;\n", text_of(file), re.M) if words(it.rpartition("{")[2]) & words(found[0])]
+        imports = [it for it in re.findall(r"^(?:ghost )?use .*;\n", text_of(file), re.M) if words(it.rpartition("{")[2]) & words(found[0])]
         self.source, self.answers = "".join([*imports, "\n", found[0]]), text_of(answers)
         self.roots = self.modules.names_in(self.source) | self.modules.names_in(self.answers)
 
