@@ -99,9 +99,12 @@ export async function askFile(path) {
 }
 
 /** Puts a mark that all desks of the office see. It may be put again. */
-export async function putMark(path) {
+export const putMark = path => putText(path, '');
+
+/** Puts a text where the office's service finds it, or a mark. */
+export async function putText(path, text) {
   await askMayBook();
-  const reply = await fetched(path, '', 'PUT');
+  const reply = await fetched(path, text, 'PUT');
   if (reply.status === 401 || reply.status === 403) throw new Fault(false, 'the password was refused');
   if (reply.status !== 201 && reply.status !== 204) throw new Fault(true, 'status ' + reply.status);
 }
