@@ -132,7 +132,7 @@ def helps(t):
 
 
 def same_lines(t):
-    """All command lines of tests/lines have the program's output and status, with hints and without, but for the two that ask for help."""
+    """All command lines of tests/lines have the program's output and status, with hints and without, but for those that ask for help."""
     for hints in '0', '1':
         folder = t.path(f'lines{hints}')
         os.mkdir(folder)

@@ -28,6 +28,8 @@ pub(crate) enum Act {
     Elm,
     /// The same writes without the commits.
     TentativeElm,
+    /// What the primary has is pulled over HTTP, where `branch_tests` asks it.
+    Pull,
     Sheet,
     Calendar(CalendarPart),
     Outcome(&'static str),

@@ -85,6 +85,16 @@ fn stops_at(rt: &impl Abort, alloc: Global, place: usize) -> (u64, u64) {
     all_stops(rt, alloc, &bytes, case)
 }
 
+/// How often the log stops in the middle of a pull over HTTP, and how often the database does.
+fn stops_of_pull(rt: &impl Abort, alloc: Global) -> (u64, u64) {
+    let (bytes, before) = ready(rt, alloc, 3);
+    let case = Case {
+        ask: (Act::Pull, "took 1 writes 1 commits\n"),
+        found: Found::Seen(before, MOVED),
+    };
+    all_stops(rt, alloc, &bytes, case)
+}
+
 /// How often the log stops while a database of the first schema is moved up, and how often the database does.
 fn stops_of_move(rt: &impl Abort, alloc: Global) -> (u64, u64) {
     let bytes = first_bytes(rt, alloc);
@@ -129,6 +139,11 @@ fn disks_stop_at_a_position(rt: HostRuntime) {
 #[test]
 fn disks_stop_as_a_batch_is_received(rt: HostRuntime) {
     tell(&rt, stops_at(&rt, rt.alloc(), 4));
+}
+
+#[test]
+fn disks_stop_in_the_middle_of_a_pull(rt: HostRuntime) {
+    tell(&rt, stops_of_pull(&rt, rt.alloc()));
 }
 
 #[test]

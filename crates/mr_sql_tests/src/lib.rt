@@ -5,6 +5,8 @@
 #[cfg(test)]
 mod acts;
 #[cfg(test)]
+mod branch_tests;
+#[cfg(test)]
 mod crash_tests;
 #[cfg(test)]
 mod disks;

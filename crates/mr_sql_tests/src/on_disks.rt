@@ -3,6 +3,7 @@
 // dropped: what it holds would have to be proved to be dropped rightly once more.
 
 use crate::acts::{Act, said, seen};
+use crate::branch_tests::pulled_text;
 use crate::first_files::fill;
 use crate::layouts::{Layout, layout};
 use crate::opening::server;
@@ -10,6 +11,7 @@ use crate::same_text::{holds, is_text};
 use mr_base::Refusal;
 use mr_service::Service;
 use mr_sql::SqlKeeper;
+use mr_store::Keeper;
 use sqlite::{Alter, Connection, FileStore, Files, Options};
 use sqlite_disk::{Disk, Fuse, Memory};
 use std::alloc::Global;
@@ -87,6 +89,14 @@ fn is_reply(rt: &impl Abort, text: &Result<Vec<u8>, Refusal>, want: &str) -> boo
     is_wanted
 }
 
+/// What the replica says to this, or takes of a pull.
+fn told<K: Keeper>(alloc: Global, service: &mut Service<K>, act: Act) -> Result<Vec<u8>, Refusal> {
+    match act {
+        Act::Pull => pulled_text(alloc, service),
+        _ => said(alloc, service, act),
+    }
+}
+
 /// Asks the replica, and gives the connection back.
 fn replied<S: Alter + Drop>(
     rt: &impl Abort,
@@ -96,7 +106,7 @@ fn replied<S: Alter + Drop>(
 ) -> (Came, Result<Connection<S>, S>) {
     match adopted(alloc, conn) {
         Ok(mut service) => {
-            let text = said(alloc, &mut service, act);
+            let text = told(alloc, &mut service, act);
             let conn = service.into_keeper().release();
             (Came::Replied(is_reply(rt, &text, want)), Ok(conn))
         }
