@@ -28,6 +28,6 @@ returns-in-Ok-clause-quiet g c = record {
       let past = reads.1 clean is_open in
       let kept = c.self.invariant.0 (clean_before reads.0 clean) past.0 in
       let alone = subst (λ k. IsSettled (λ t. (x : Trees) × (state g.S.Store k.0).may_leave x × (t ≡ tables_in x)) (tables_in (state g.S.Store k.0).now.trees)) (sym c.self.view_is) was in
-      let had : (state g.S.Store c.self.inside.conn).may_leave left.0 = elim (reads.0.crash clean left.0 left.1) [ | inl was_left ↦ was_left | inr none ↦ absurd (none kept) ] in
+      let had : (state g.S.Store c.self.inside.conn).may_leave left.0 = elim (reads.0.crash clean left.0 left.1) [ inl was_left ↦ was_left | inr none ↦ absurd (none kept) ] in
       alone u (left.0, had, left.2) ∙ ap (λ (d : Database). tables_in d.trees) (sym (past.1 kept).0);
 }
