@@ -1,5 +1,6 @@
--- A reader of the contracts trusts PeerAsking, Exchanged, OnceAsked, ReplyLaw, ReplyRead, PeerReplies, PeerRequests, Rounds, ExchangeSteps,
+-- A reader of the contracts trusts BatchSizes, PeerAsking, Exchanged, OnceAsked, ReplyLaw, ReplyRead, PeerReplies, PeerRequests, Rounds, ExchangeSteps,
 -- PeerTaking and Took. The others, Seen and TookWords, serve private clauses and proofs alone.
+pub mod BatchSizes
 pub mod Exchanged
 pub mod ExchangeSteps
 pub mod OnceAsked
