@@ -11,6 +11,7 @@ use Rattle.mr_http.specs.declared.faults.WebFault.{WebFault}
 use Rattle.mr_peer.specs.PeerAsking.{AsksPull, AsksPush, lacking}
 use Rattle.mr_peer.specs.Exchanged.{IsExchanged}
 use Rattle.mr_peer.specs.ExchangeSteps.{TakesBody, TakesPulled}
+use Rattle.mr_peer.specs.OnceAsked.{IsBodyOf, ReceivesOnce, SendsBatch, SendsPosition, TellsBatch}
 use Rattle.mr_net.specs.declared.ways.Way.{Way}
 use Rattle.mr_net.specs.declared.ways.Way.TheVariants.{Pull, Push}
 use Rattle.mr_net.specs.declared.ways.Round.{Round}
@@ -60,24 +61,29 @@ ends_so (Err fault) ending result made = subst (λ r. IfOk r (λ round. ◌≡�
 
 -- it told its position, and no reply was taken
 pub untaken : {K : Type 0} (keeper : Ghosts K) (a m d : K) (host : Text) (held holds : Option Text) (asked : Result (Unit {0}) WebFault) (result : Result Round WebFault)
-    → IsExchanged keeper a m asked (AsksPull host held holds) (Reaches (keeper.tables a) AskPosition) → IsErr result → d ≡ m → IsClient keeper Pull a result d
-untaken keeper a m d host held holds asked result told err still = inr (m, host, held, holds, asked, told, inl (err, still))
+    → IsExchanged keeper a m asked (AsksPull host held holds) (Reaches (keeper.tables a) AskPosition) → SendsPosition keeper a m host held holds asked
+    → IsErr result → d ≡ m → IsClient keeper Pull a result d
+untaken keeper a m d host held holds asked result told once err still = inr (m, host, held, holds, asked, told, once, inl (err, still))
 
 -- it told its position, and took the reply
-pub taken : {K : Type 0} (keeper : Ghosts K) (a m b d : K) (host : Text) (held holds known : Option Text) (asked : Result (Unit {0}) WebFault)
+pub taken : {K : Type 0} (keeper : Ghosts K) (a m b d : K) (host : Text) (held holds known : Option Text)
     (called : Result (ℕ × ℕ × Ending) WebFault) (result : Result Round WebFault)
-    → IsExchanged keeper a m asked (AsksPull host held holds) (Reaches (keeper.tables a) AskPosition) → b ≡ m
-    → IsExchanged keeper b d called (TakesPulled known) (TakesBody (keeper.tables b)) → ComesTo called result → IsClient keeper Pull a result d
-taken keeper a m b d host held holds known asked called result told still took comes =
+    → IsExchanged keeper a m (Ok tt) (AsksPull host held holds) (Reaches (keeper.tables a) AskPosition) → SendsPosition keeper a m host held holds (Ok tt) → b ≡ m
+    → IsExchanged keeper b d called (TakesPulled known) (TakesBody (keeper.tables b)) → ComesTo called result
+    → ReceivesOnce keeper b d (IsBodyOf known) TellsBatch called → IsClient keeper Pull a result d
+taken keeper a m b d host held holds known called result told once still took comes took_once =
     let from_there = subst (λ x. IsExchanged keeper x d called (TakesPulled known) (TakesBody (keeper.tables x))) still took in
-    inr (m, host, held, holds, asked, told, inr (known, called, from_there, comes))
+    let once_there = subst (λ x. ReceivesOnce keeper x d (IsBodyOf known) TellsBatch called) still took_once in
+    inr (m, host, held, holds, Ok tt, told, once, inr (refl, known, called, from_there, comes, once_there))
 
 -- it handed out a batch, and was left alone before and after
 pub handed : {K : Type 0} (keeper : Ghosts K) (a b c d : K) (position : Position) (host : Text) (held holds : Option Text) (asked : Result Ending WebFault)
     (result : Result Round WebFault) → b ≡ a
-    → IsExchanged keeper b c asked (AsksPush position host held holds) (Reaches (keeper.tables b) (lacking position)) → d ≡ c
+    → IsExchanged keeper b c asked (AsksPush position host held holds) (Reaches (keeper.tables b) (lacking position))
+    → SendsBatch keeper b c position host held holds asked → d ≡ c
     → IfOk result (λ round. asked ≡ Ok round.ending) → IsClient keeper Push a result d
-handed keeper a b c d position host held holds asked result before gave after comes =
+handed keeper a b c d position host held holds asked result before gave once after comes =
     let to_the_end = subst (λ y. IsExchanged keeper b y asked (AsksPush position host held holds) (Reaches (keeper.tables b) (lacking position))) (sym after) gave in
     let whole = subst (λ x. IsExchanged keeper x d asked (AsksPush position host held holds) (Reaches (keeper.tables x) (lacking position))) before to_the_end in
-    inr (position, host, held, holds, asked, whole, comes)
+    let once_to_the_end = subst (λ y. SendsBatch keeper b y position host held holds asked) (sym after) once in
+    inr (position, host, held, holds, asked, whole, comes, subst (λ x. SendsBatch keeper x d position host held holds asked) before once_to_the_end)

@@ -8,6 +8,7 @@ use Rattle.mr_http.specs.declared.faults.WebFault.{WebFault}
 use Rattle.mr_http.specs.declared.faults.WebFault.TheVariants.{Write}
 use Rattle.mr_peer.specs.Exchanged.{IsExchanged}
 use Rattle.mr_peer.specs.ExchangeSteps.{TakesBody, TakesPulled}
+use Rattle.mr_peer.specs.OnceAsked.{IsBodyOf, ReceivesOnce, TellsBatch}
 use Rattle.mr_peer.specs.PeerReplies.{told_took}
 use Rattle.mr_peer.specs.PeerTaking.{TellsAsRead}
 use Rattle.mr_net.specs.declared.ways.Round.{Round}
@@ -23,7 +24,8 @@ PullsOver keeper old new request held holds known result =
     (BreaksOff request held holds result × (new ≡ old))
     ⊎ (Appends held holds request
     × (called : Result (ℕ × ℕ × Ending) WebFault)
-    × IsExchanged keeper old new called (TakesPulled known) (TakesBody (keeper.tables old)) × ComesTo called result)
+    × IsExchanged keeper old new called (TakesPulled known) (TakesBody (keeper.tables old)) × ComesTo called result
+    × ReceivesOnce keeper old new (IsBodyOf known) TellsBatch called)
 
 -- the same of a push, whose batch ends so
 abbrev pub PushesOver : Text → Ending → Option Text → Option Text → Option Text → Result Round WebFault → Type 0

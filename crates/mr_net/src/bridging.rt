@@ -7,6 +7,7 @@ ghost use Rattle.mr_model.specs.Step.{AskPosition};
 ghost use Rattle.mr_words.specs.CommandOutput.{no_memory_line};
 ghost use Rattle.mr_peer.specs.PeerAsking.{AsksPull, AsksPush, lacking};
 ghost use Rattle.mr_peer.specs.Exchanged.{IsExchanged};
+ghost use Rattle.mr_peer.specs.OnceAsked.{SendsBatch, SendsPosition};
 ghost use Rattle.mr_peer.specs.PeerRequests.{is_host};
 ghost use Rattle.mr_net.specs.Bridged.{TellsBridge};
 ghost use Rattle.mr_net.specs.Printed.{EndsExchange, StopsWithText};
@@ -40,8 +41,8 @@ const STRANGERS: u32 = 1_000;
 
 /// Another database of this machine: each request is asked, served and its reply taken in turn.
 ///
-/// So nobody reads while the other end writes: what is written waits in the sockets. That is at most 64 lines of 403 bytes, two lines
-/// and a head, under 27,000 bytes in all, and loopback takes it at once: by default the end of a connection that is not read takes
+/// So nobody reads while the other end writes: what is written waits in the sockets. That is a batch and a head at most, 26,200 bytes in all
+/// (`mr_peer::batch_size_law`, `given`), and loopback takes it at once: by default the end of a connection that is not read takes
 /// 64 KiB or more, on Linux and on macOS.
 #[derive(Drop)]
 struct Neighbour<'a, C: Keeper, S: Keeper> {
@@ -121,7 +122,8 @@ fn ask_pull<C: Keeper>(
 ) -> Result<(), WebFault>
     requires { IsTrue (is_host host.now) }
     ensures { (held holds : Option Text)
-        × IsExchanged C.Keeper client.old client.new result (AsksPull host.now held holds) (Reaches (C.tables client.old) AskPosition) }
+        × IsExchanged C.Keeper client.old client.new result (AsksPull host.now held holds) (Reaches (C.tables client.old) AskPosition)
+        × SendsPosition C.Keeper client.old client.new host.now held holds result }
 {
     pull_ask(alloc, client, host, writer)
 }
@@ -136,7 +138,8 @@ fn ask_push<C: Keeper>(
 ) -> Result<Ending, WebFault>
     requires { IsTrue (is_host host.now) }
     ensures { (held holds : Option Text)
-        × IsExchanged C.Keeper client.old client.new result (AsksPush position.now host.now held holds) (Reaches (C.tables client.old) (lacking position.now)) }
+        × IsExchanged C.Keeper client.old client.new result (AsksPush position.now host.now held holds) (Reaches (C.tables client.old) (lacking position.now))
+        × SendsBatch C.Keeper client.old client.new position.now host.now held holds result }
 {
     push_ask(alloc, client, position, host, writer)
 }

@@ -2,6 +2,7 @@
 
 ghost use Rattle.mr_peer.specs.Exchanged.{IsExchanged};
 ghost use Rattle.mr_peer.specs.ExchangeSteps.{TakesBody, TakesPulled};
+ghost use Rattle.mr_peer.specs.OnceAsked.{IsBodyOf, ReceivesOnce, TellsBatch};
 ghost use Rattle.mr_peer.specs.PeerReplies.{told_took};
 ghost use Rattle.mr_peer.specs.PeerTaking.{TellsAsRead};
 ghost use Rattle.mr_net.specs.ExchangeRounds.{Brings, ComesTo};
@@ -22,7 +23,7 @@ pub(crate) fn take_pull<K: Keeper, R: Read>(
     reader: &mut R,
 ) -> Result<Round, WebFault>
     ensures { (called : _) × IsExchanged K.Keeper service.old service.new called (TakesPulled (R.remaining reader.old)) (TakesBody (K.tables service.old))
-        × ComesTo called result }
+        × ComesTo called result × ReceivesOnce K.Keeper service.old service.new (IsBodyOf (R.remaining reader.old)) TellsBatch called }
 {
     match pull_take(alloc, service, reader) {
         Ok(taken) => Ok(Round::of(taken)),

@@ -10,5 +10,5 @@ returns-in_err-send g c =
 
 pub returns : goal.returns
 returns g c =
-    let (called, took, comes) = c.take_pull.ensures in
-    inr (c.in_ok-send.ensures.ok, called, took, comes)
+    let (called, took, comes, once) = c.take_pull.ensures in
+    inr (c.in_ok-send.ensures.ok, called, took, comes, once)

@@ -10,7 +10,8 @@ pub returns-in_err-ending : goal.returns-in_err-ending
 returns-in_err-ending g c =
     let p = err_from_is_err_and c.from_residual-in_err-ending.result c.from_residual-in_err-ending.ensures.1 in
     push_unmade g.K.Keeper c.args.self.now.service c.push_ask.new.service c.in_ok-position.position c.as_str-host.result.now (Some c.new-request.result.items)
-    (Some c.push_ask.new.writer.items) c.in_err-ending.field-0.0 c.from_residual-in_err-ending.result c.in_err-ending.ensures.exchanged c.in_err-ending.ensures.fault
+    (Some c.push_ask.new.writer.items) c.in_err-ending.field-0.0 c.from_residual-in_err-ending.result c.in_err-ending.ensures.exchanged c.in_err-ending.ensures.once
+    c.in_err-ending.ensures.fault
     (p.1 ∙ ap Err p.2)
 
 -- there is no connection
@@ -19,6 +20,7 @@ returns-in_err-stream g c =
     let p = err_from_is_err_and c.from_residual-in_err-stream.result c.from_residual-in_err-stream.ensures.1 in
     push_unsent g.K.Keeper c.args.self.now.service c.push_ask.new.service c.in_ok-position.position c.as_str-host.result.now c.new-request.result.items
     c.push_ask.new.writer.items c.in_ok-ending.ending c.from_residual-in_err-stream.result c.new-request.ensures.items c.in_ok-ending.ensures.exchanged
+    c.in_ok-ending.ensures.once
     (p.1 ∙ ap Err p.2 ∙ ap Err c.in_err-stream.ensures)
 
 pub returns : goal.returns
@@ -26,4 +28,5 @@ returns g c =
     let Q : Text → Type 0 = λ made. PushesOver made c.in_ok-ending.ending None None None c.push_over.result in
     push_sent g.K.Keeper c.args.self.now.service c.push_ask.new.service c.in_ok-position.position c.as_str-host.result.now c.new-request.result.items
     c.push_ask.new.writer.items None None None c.in_ok-ending.ending c.push_over.result c.new-request.ensures.items c.in_ok-ending.ensures.exchanged
+    c.in_ok-ending.ensures.once
     (subst Q c.as_slice.ensures.value c.push_over.ensures)
