@@ -1,4 +1,5 @@
 -- A reader of the contracts trusts all of these but SentRequests, which serves private clauses alone.
+pub mod AskedInTurn
 pub mod Bridged
 pub mod Connections
 pub mod Hosts

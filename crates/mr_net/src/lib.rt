@@ -8,6 +8,7 @@ mod connections;
 mod databases;
 mod exchanging;
 mod hosts;
+mod laws;
 mod printing;
 mod serving;
 mod taking;
@@ -16,6 +17,7 @@ mod ways;
 
 pub use bridging::bridge;
 pub use exchanging::exchange;
+pub use laws::asking_law;
 pub use mr_peer::{
     position_ask, position_take, pull, pull_ask, pull_take, push, push_ask, push_take,
 };
