@@ -1,9 +1,12 @@
 //! Whether the numbers of a replica, the rows of `meta` and `vector`, agree: they are tested before any question is answered.
 
-ghost use Rattle.std.specs.Prelude.{◌≡◌, [], ◌∷◌, map, IfOk, OnOk};
+ghost use Rattle.std.specs.Prelude.{◌≡◌, [], ◌∷◌, map, IfOk, OnOk, IsTrue};
 ghost use Rattle.sqlite_trees.specs.View.{IsClean, IsQuiet};
 ghost use Rattle.sqlite_exec.specs.Calls.{OnlyReads};
-ghost use Rattle.mr_rows.specs.RowCells.{meta_in};
+ghost use Rattle.mr_rows.specs.RowCells.{meta_in, meta_cells_of};
+ghost use Rattle.mr_rows.specs.RowLimits.{is_meta_row};
+ghost use Rattle.mr_rows.specs.Form.{meta_form};
+ghost use Rattle.mr_rows.specs.Shown.{columns_from, IsStoredAs, AreStoredAs};
 ghost use Rattle.mr_trees.specs.Heads.{do_heads_agree as do_heads_agree_in};
 
 use crate::rows::Picked;
@@ -21,7 +24,9 @@ use std::alloc::Global;
 
 /// The row of `meta`, with the rowid in front, under the second schema.
 fn meta_behind_id(row: &sqlite::Row) -> Result<MetaRow, Error>
-    ensures { IfOk result (λ meta. meta ≡ meta_in row.now) }
+    ensures row { IfOk result (λ meta. meta ≡ meta_in row.now) }
+    ensures cells { IfOk result (λ meta. meta_cells_of 2 meta ≡ columns_from 1 7 row.now) }
+    ensures within { IfOk result (λ meta. IsTrue (is_meta_row meta)) }
 {
     if !has_number(row, 1, 1, 1) || !has_number(row, 2, 2, 2) {
         return Err(Error::IntegralValueOutOfRange(1));
@@ -41,7 +46,8 @@ fn meta_behind_id(row: &sqlite::Row) -> Result<MetaRow, Error>
 }
 
 fn read_meta(alloc: Global, row: &Row) -> Result<MetaRow, Trouble>
-    ensures { IfOk result (λ meta. meta ≡ meta_in row.now) }
+    ensures row { IfOk result (λ meta. meta ≡ meta_in row.now) }
+    ensures stored { OnOk result (IsStoredAs meta_form row.now) }
 {
     let copy = match <sqlite::Row as FromRow>::from_row(alloc, row) {
         Ok(copy) => copy,
@@ -56,6 +62,7 @@ fn read_meta(alloc: Global, row: &Row) -> Result<MetaRow, Trouble>
 /// The row of `meta`, if there is one and no other.
 fn only_meta<S: Store>(store: &mut S, alloc: Global) -> Result<MetaRow, Trouble>
     ensures ok { IfOk result (λ meta. IsClean (S.Store.view store.new) → map meta_in ((S.Store.view store.old).trees 0) ≡ meta ∷ []) }
+    ensures stored { OnOk result (IsClean (S.Store.view store.new) → AreStoredAs meta_form (S.Store.view store.old).trees) }
     ensures same { OnOk result (IsClean (S.Store.view store.new) → OnlyReads (S.Store.view store.old) (S.Store.view store.new)) }
     ensures quiet { IsQuiet S.Store.view S.Store.faults S.Store.recovers S.Store.is_shielded store.old store.new }
 {
@@ -92,6 +99,7 @@ fn bare_tables(alloc: Global, meta: MetaRow, vector: Vec<VectorRow>) -> Tables
 pub(crate) fn do_heads_agree<S: Store>(store: &mut S, alloc: Global) -> Result<bool, Trouble>
     ensures agree { IfOk result (λ b. IsClean (S.Store.view store.new)
         → b ≡ do_heads_agree_in (S.Store.view store.old).trees) }
+    ensures stored { OnOk result (IsClean (S.Store.view store.new) → AreStoredAs meta_form (S.Store.view store.old).trees) }
     ensures same { OnOk result (IsClean (S.Store.view store.new) → OnlyReads (S.Store.view store.old) (S.Store.view store.new)) }
     ensures quiet { IsQuiet S.Store.view S.Store.faults S.Store.recovers S.Store.is_shielded store.old store.new }
 {

@@ -11,7 +11,7 @@ use mr_base::{RoomName, WriteId};
 use mr_rows::StoredRow;
 use mr_rows::asked_rows::AskedRow;
 use mr_rows::columns::Cells;
-use mr_tables::{BookingRow, CancelRow, CancelledRow, ErrorRow, VectorRow};
+use mr_tables::{BookingRow, CancelRow, CancelledRow, ErrorRow, LogRow, VectorRow};
 use sqlite_exec::work::FromRow;
 use sqlite_value::row::Row;
 use sqlite_value::value::ValueRef;
@@ -68,6 +68,16 @@ impl TreeRow for VectorRow {
     }
 
     ghost among = { λ trees rows. rows.vector };
+
+    ghost narrow = { refl };
+}
+
+impl TreeRow for LogRow {
+    fn tree() -> u32 {
+        14
+    }
+
+    ghost among = { λ trees rows. rows.log };
 
     ghost narrow = { refl };
 }

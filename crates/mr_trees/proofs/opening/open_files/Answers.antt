@@ -25,21 +25,21 @@ module _ {D : Type 0} {g : Ghosts D} where
       ready.clean ∙ ap (λ b. if b then file_trees (state it).page_size (kept_schema it.saved (schema_of it)) (state it).committed else no_trees) clean
       ∙ ap (λ s. file_trees (state it).page_size (kept_schema s (schema_of it)) (state it).committed) ready.unaltered
 
-pub returns-in-Ok-open-clause-found : goal.returns-in-Ok-open-clause-found
-returns-in-Ok-open-clause-found g c clean =
-    let it = c.in-Ok-open.store in
+pub returns-clause-found : goal.returns-clause-found
+returns-clause-found g c clean =
+    let it = c.in_ok-store.store in
     let fresh = c.in-Ok-new.fresh in
     let up = clean_is (state it).is_clean clean in
     let size = c.in-Ok-new.ensures.size ∙ c.in-Ok.ensures.size ∙ c.in_ok-size.ensures.value in
     let pair = c.in-Ok-new.ensures.files ∙ c.in-Ok.ensures.files in
     let image : seen_image g.D.Disk (files_of fresh).0 (files_of fresh).1 ≡ seen_image g.D.Disk c.args.files.log c.args.files.db = ap (λ f. seen_image g.D.Disk f.0 f.1) pair in
-    let wide = (c.in-Ok-open.ensures.kept up).size ∙ size in (
+    let wide = c.in_ok-store.ensures.size up ∙ size in (
       c.args.schema.now,
       (
         (state it).committed,
         schema_of it,
-        subst (λ (w : List Wanted). Describes w c.args.schema.now) (sym c.in-Ok-open.ensures.schema) c.in-Ok-new.ensures.schema,
-        subst (λ (n : ℕ). Recovers n (seen_image g.D.Disk c.args.files.log c.args.files.db) (state it).committed) size (subst (λ (i : Image). Recovers (state_of fresh).page_size i (state it).committed) image (c.in-Ok-open.ensures.found up)),
-        read_from it c.in-Ok-open.ensures.ready up ∙ ap (λ n. file_trees n (schema_of it) (state it).committed) wide,
+        subst (λ (w : List Wanted). Describes w c.args.schema.now) (sym c.in_ok-store.ensures.schema) c.in-Ok-new.ensures.schema,
+        subst (λ (n : ℕ). Recovers n (seen_image g.D.Disk c.args.files.log c.args.files.db) (state it).committed) size (subst (λ (i : Image). Recovers (state_of fresh).page_size i (state it).committed) image (c.in_ok-store.ensures.found up)),
+        read_from it c.in_ok-store.ensures.ready up ∙ ap (λ n. file_trees n (schema_of it) (state it).committed) wide,
       ),
     )
