@@ -4,7 +4,7 @@ use Rattle.std.specs.Prelude.{flat_map}
 use Rattle.std.specs.List.{filter_map, cons_option, enumerate_from, list_any, list_all}
 use Rattle.std.proofs.lemmas.Bool.{true≢false, or_cases}
 use Rattle.std.proofs.lemmas.Bool.Decides.{nat_tests}
-use Rattle.std.proofs.lemmas.List.{length-append, length-map, length-take, map-append, map_more, take_all, take-append-drop}
+use Rattle.std.proofs.lemmas.List.{length-append, length-map, length-take, map-append, map_more, take_all, take-append-drop, take-append-le}
 use Rattle.mr_model.specs.Writes.{Id, Write, id_of, is_write}
 use Rattle.mr_model.specs.Exchange as model
 use Rattle.mr_model.specs.Positions.{Position}
@@ -48,11 +48,34 @@ Offers-more limit items there new more x y o room e same =
     not_above : (l m n : ℕ) → m ≤ l → n ≤ l → nat_lt l m ≡ nat_lt l n
     not_above l m n p q = grind (arith, nat_tests)
 
+-- where there is one more already, any others are more
+pub Offers-full : (limit : ℕ) (items rest : List model.Item) (there : List Item) (more : Bool) → Offers limit items there more → more ≡ true → Offers limit (items ++ rest) there more
+Offers-full limit items rest there more o full =
+    let above : nat_lt limit (length items) ≡ true = sym o.rest ∙ full in
+    let low : limit ≤ length items = grind (arith, nat_tests) in
+    let longer = length-append items rest in
+    let beyond : nat_lt limit (length (items ++ rest)) ≡ true = grind (arith, nat_tests) in
+    record { first = o.first ∙ sym (take-append-le limit items rest low); rest = full ∙ sym beyond }
+
 -- ---- more writes
 
 pub lacked_items-append : (p : Position) (ws vs : List Write) → lacked_items p (ws ++ vs) ≡ lacked_items p ws ++ lacked_items p vs
 lacked_items-append p [] vs = refl
 lacked_items-append p (w ∷ ws) vs = ap (λ xs. item_if_lacked p (Some w) ++ xs) (lacked_items-append p ws vs) ∙ sym (append_assoc (item_if_lacked p (Some w)) (lacked_items p ws) (lacked_items p vs))
+
+-- the writes of the rows so far and of the others
+rows_parted : (rows : List KeptRow) (k : ℕ) → row_writes (take k rows) ++ row_writes (drop k rows) ≡ row_writes rows
+rows_parted rows k = sym (map-append (λ (y : KeptRow). y.write) (take k rows) (drop k rows)) ∙ ap row_writes (take-append-drop k rows)
+
+-- where there is one more already, those that follow are more
+pub lacked_full : (limit : ℕ) (p : Position) (items : List model.Item) (rows : List KeptRow) (k : ℕ) (there : List Item) (more : Bool) → Offers limit (items ++ lacked_items p (row_writes (take k rows))) there more → more ≡ true
+    → Offers limit (items ++ lacked_items p (row_writes rows)) there more
+lacked_full limit p items rows k there more o full =
+    let front = lacked_items p (row_writes (take k rows)) in
+    let back = lacked_items p (row_writes (drop k rows)) in
+    let all : (items ++ front) ++ back ≡ items ++ lacked_items p (row_writes rows) =
+    append_assoc items front back ∙ ap (λ xs. items ++ xs) (sym (lacked_items-append p (row_writes (take k rows)) (row_writes (drop k rows))) ∙ ap (lacked_items p) (rows_parted rows k)) in
+    subst (λ xs. Offers limit xs there more) all (Offers-full limit (items ++ front) back there more o full)
 
 -- the writes of one row more
 pub row_more : (rows : List KeptRow) (k : ℕ) (x : KeptRow) → k < length rows → x ≡ get_or rows k x → row_writes (take k rows) ++ x.write ∷ [] ≡ row_writes (take (k + 1) rows)
@@ -67,6 +90,26 @@ committed_items-more p seq (v ∷ vs) w =
     let n : seq + 1 + length vs ≡ seq + suc (length vs) = omega arith in
     ap (λ xs. (item_if_lacked p (Some v) ++ model.C seq (id_of v) ∷ []) ++ xs) (committed_items-more p (seq + 1) vs w ∙ ap (λ m. committed_items p (seq + 1) vs ++ (item_if_lacked p (Some w) ++ model.C m (id_of w) ∷ [])) n)
     ∙ sym (append_assoc (item_if_lacked p (Some v) ++ model.C seq (id_of v) ∷ []) (committed_items p (seq + 1) vs) (item_if_lacked p (Some w) ++ model.C (seq + suc (length vs)) (id_of w) ∷ []))
+
+committed_items-append : (p : Position) (seq : ℕ) (ws vs : List Write) → committed_items p seq (ws ++ vs) ≡ committed_items p seq ws ++ committed_items p (seq + length ws) vs
+committed_items-append p seq [] vs = ap (λ n. committed_items p n vs) (same seq)
+  where
+    same : (n : ℕ) → n ≡ n + 0
+    same n = omega arith
+committed_items-append p seq (w ∷ ws) vs =
+    let n : seq + 1 + length ws ≡ seq + suc (length ws) = omega arith in
+    ap (λ xs. (item_if_lacked p (Some w) ++ model.C seq (id_of w) ∷ []) ++ xs) (committed_items-append p (seq + 1) ws vs ∙ ap (λ m. committed_items p (seq + 1) ws ++ committed_items p m vs) n)
+    ∙ sym (append_assoc (item_if_lacked p (Some w) ++ model.C seq (id_of w) ∷ []) (committed_items p (seq + 1) ws) (committed_items p (seq + suc (length ws)) vs))
+
+pub committed_full : (limit : ℕ) (p : Position) (first : ℕ) (items : List model.Item) (rows : List KeptRow) (k : ℕ) (there : List Item) (more : Bool) → Offers limit (items ++ committed_items p first (row_writes (take k rows))) there more → more ≡ true
+    → Offers limit (items ++ committed_items p first (row_writes rows)) there more
+committed_full limit p first items rows k there more o full =
+    let ws = row_writes (take k rows) in
+    let front = committed_items p first ws in
+    let back = committed_items p (first + length ws) (row_writes (drop k rows)) in
+    let all : (items ++ front) ++ back ≡ items ++ committed_items p first (row_writes rows) =
+    append_assoc items front back ∙ ap (λ xs. items ++ xs) (sym (committed_items-append p first ws (row_writes (drop k rows))) ∙ ap (committed_items p first) (rows_parted rows k)) in
+    subst (λ xs. Offers limit xs there more) all (Offers-full limit (items ++ front) back there more o full)
 
 -- ---- those of the definitions
 

@@ -45,6 +45,18 @@ impl KeptRow {
         write.stamp.id()
     }
 
+    /// An equal row.
+    pub(crate) fn copy(&self, alloc: Global) -> Result<KeptRow, Refusal>
+        ensures copy { IfOk result (λ copy. copy ≡ self.now) }
+        ensures only { IfErr result (λ e. e ≡ Refusal.OutOfMemory) }
+    {
+        Ok(KeptRow {
+            write: self.write.copy(alloc)?,
+            undo: self.undo,
+            seq: self.seq,
+        })
+    }
+
     /// Its place in the order of execution.
     pub(crate) fn place(&self) -> RunPlace
         ensures { result ≡ run_place self.now }

@@ -52,8 +52,9 @@ impl Part {
             → TakesPart (OfItems (map item_of items.now)) (λ a. after_items a (take_items (map item_of items.now) 2 (Ok (nothing_taken a)))) (λ _ taken. Took taken.0 taken.1) (λ taken. taken.2) self result }
         ensures own { NeverStore result }
     {
-        let moving = moving_by(self.alloc, &self.kept, items, self.summary.commits)?;
-        let undone = moving_rows(self.alloc, &self.kept, &moving)?;
+        let kept = self.kept.as_slice();
+        let moving = moving_by(self.alloc, kept, items, self.summary.commits)?;
+        let undone = moving_rows(self.alloc, kept, &moving)?;
         self.take_undone(items, &moving, &undone)
     }
 
@@ -70,7 +71,6 @@ impl Part {
             → AnswersItems a (map item_of items.now) result }
         ensures own { NeverStore result }
     {
-        let had = self.kept.len() as u64;
         let Part {
             alloc,
             summary,
@@ -78,6 +78,8 @@ impl Part {
             kept,
             board,
         } = self;
+        let kept = kept.into_rows(alloc)?;
+        let had = kept.len() as u64;
         let reached = reached_with(alloc, summary, &rooms, kept, items)?;
         let Reached {
             summary: numbers,

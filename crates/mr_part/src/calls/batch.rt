@@ -30,7 +30,8 @@ impl Part {
         // The part has none of the commits that the position has: for it they are as good as dropped.
         let mut summary = self.summary;
         summary.dropped = position.commits;
-        let outgoing = outgoing_for(self.alloc, &summary, &self.kept, position, max_lines)?;
+        let kept = self.kept.as_slice();
+        let outgoing = outgoing_for(self.alloc, &summary, kept, position, max_lines)?;
         let header = Header {
             from: summary.server,
             primary: summary.primary,

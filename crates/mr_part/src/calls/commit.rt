@@ -26,10 +26,11 @@ impl Part {
         if self.summary.server != self.summary.primary {
             return Err(Refusal::NotPrimary);
         }
-        let writes = copied_writes(self.alloc, &self.kept)?;
-        let rows = undo_rows(self.alloc, &self.kept)?;
+        let kept = self.kept.as_slice();
+        let writes = copied_writes(self.alloc, kept)?;
+        let rows = undo_rows(self.alloc, kept)?;
         let bys = cancellers(self.alloc, &self.board, &writes)?;
         let (_, change) = after_commits(self.alloc, &self.summary, &writes, &rows, &bys)?;
-        Ok((self.kept.len() as u64, change))
+        Ok((kept.len() as u64, change))
     }
 }

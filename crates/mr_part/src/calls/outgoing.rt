@@ -99,7 +99,7 @@ impl Outgoing {
         Ok(())
     }
 
-    /// Those of these writes that the position lacks.
+    /// Those of these writes that the position lacks. The first one beyond the limit ends the walk.
     fn push_lacked(&mut self, position: &Position, rows: &[KeptRow]) -> Result<(), Refusal>
         ensures items { OnOk result ((items : List ItemOfBatch) → Offers self.old.limit items self.old.items.items self.old.more
             → Offers self.old.limit (items ++ lacked_items position.now (row_writes rows.now)) self.new.items.items self.new.more) }
@@ -107,12 +107,16 @@ impl Outgoing {
         ensures only { IfErr result (λ e. e ≡ Refusal.OutOfMemory) }
     {
         for row in rows {
+            if self.more {
+                return Ok(());
+            }
             self.push_if_lacked(position, &row.write)?;
         }
         Ok(())
     }
 
-    /// The commits of these writes, numbered from `first` on, each behind its write if the position lacks that.
+    /// The commits of these writes, numbered from `first` on, each behind its write if the position lacks that. The first line beyond the
+    /// limit ends the walk.
     fn push_commits(
         &mut self,
         position: &Position,
@@ -125,6 +129,9 @@ impl Outgoing {
         ensures only { 1 ≤ first → first + length rows.now ≤ 1_000_000_000_000 → IfErr result (λ e. e ≡ Refusal.OutOfMemory) }
     {
         for (k, row) in rows.iter().enumerate() {
+            if self.more {
+                return Ok(());
+            }
             let Some(seq) = CommitNumber::new(first.saturating_add(k as u64)) else {
                 return Err(Refusal::Store);
             };

@@ -35,7 +35,7 @@ impl Part {
         }
         let mut summary = self.summary;
         summary.dropped = number;
-        let change = forgotten(self.alloc, &summary, &self.kept)?;
+        let change = forgotten(self.alloc, &summary, self.kept.as_slice())?;
         Ok((number, change))
     }
 }

@@ -1,19 +1,21 @@
-ghost use Rattle.std.specs.Prelude.{◌≡◌, ◌⊎◌, ◌&&◌, true, false, Err, IfOk, IfErr};
+ghost use Rattle.std.specs.Prelude.{◌≡◌, ◌⊎◌, ◌&&◌, ◌-◌, min, true, false, Err, IfOk, IfErr};
 ghost use Rattle.mr_model.specs.Replica.{Replica, IsReplica};
+ghost use Rattle.mr_model.specs.Scopes.{Above, Nothing};
 ghost use Rattle.mr_model.specs.Tables.{tables_of};
 ghost use Rattle.mr_agree.specs.Agreeing.{does_meta_agree, do_counts_agree};
 ghost use Rattle.mr_tables.specs.Summary.{IsWithin, summary_of};
 ghost use Rattle.mr_tables.specs.Boards.{board_of};
-ghost use Rattle.mr_part.specs.Parts.{HasRowsInScope, IsPartOf, HasRowsButBookings, goes_by_rooms};
+ghost use Rattle.mr_part.specs.Parts.{HasRowsInScope, IsLogOf, IsPartOf, HasRowsButBookings, goes_by_rooms};
 ghost use Rattle.mr_part.specs.RowTests.{IsWanted};
 ghost use Rattle.mr_part.specs.ScopeOf.{scope_of};
 
-use crate::kept_rows::of_store;
+use crate::kept_rows::{KeptRow, of_store};
 use crate::scope::board::board_where;
 use crate::scope::bookings::BookingTest;
 use crate::scope::wanted::Wanted;
+use crate::seen_log::SeenLog;
 use crate::{Part, Scope};
-use mr_base::{Refusal, RoomName};
+use mr_base::{Item, Refusal, RoomName};
 use mr_replay::{Board, SeenBoard};
 use mr_tables::Tables;
 use mr_tables::numbers::do_numbers_agree;
@@ -45,7 +47,7 @@ impl Part {
                 alloc,
                 summary,
                 rooms,
-                kept,
+                kept: SeenLog::own(kept),
                 board: SeenBoard::all(board),
             }),
             Err(refusal) => Err(of_store(refusal)),
@@ -78,10 +80,47 @@ impl Part {
             alloc,
             summary,
             rooms,
-            kept,
+            kept: SeenLog::own(kept),
             board: SeenBoard::in_rooms(board, seen),
         })
     }
+
+    /// The part for a batch for a position with so many commits: the writes above them are seen on this log, which has all kept writes,
+    /// and none is copied. Of the tables only the numbers and the rooms have to be there. Refused as `from_tables` refuses.
+    pub fn over_log(
+        alloc: Global,
+        commits: u64,
+        tables: &Tables,
+        log: Rc<Vec<KeptRow>>,
+    ) -> Result<Part, Refusal>
+        ensures part { (a : Replica) → IsReplica a → HasRowsButBookings tables.now Nothing a → IsLogOf log.value.items a → IfOk result (λ part. IsPartOf part (Above commits) a) }
+        ensures only { (a : Replica) → IsReplica a → HasRowsButBookings tables.now Nothing a → IfErr result (λ e. e ≡ Refusal.OutOfMemory) }
+        ensures within { IfOk result (λ part. IsWithin part.summary) }
+        ensures numbers { IfOk result (λ part. (does_meta_agree tables.now && do_counts_agree tables.now) ≡ true) }
+        // Numbers that contradict each other are refused without memory.
+        ensures due { (does_meta_agree tables.now && do_counts_agree tables.now) ≡ false → result ≡ Err Refusal.Store }
+        ensures cause { IfErr result (λ e. (e ≡ Refusal.OutOfMemory) ⊎ (e ≡ Refusal.Store)) }
+    {
+        // For the prover alone: a scope may hold items.
+        let _none: Option<&Item> = None;
+        let (summary, rooms, _) = rows_in_scope(alloc, &Scope::Nothing, tables)?;
+        let first = known_in(&summary, commits);
+        Ok(Part {
+            alloc,
+            summary,
+            rooms,
+            kept: SeenLog::behind(log, first),
+            board: SeenBoard::all(Board::new(alloc)),
+        })
+    }
+}
+
+/// How many of the kept writes are commits up to this number; they are the first.
+fn known_in(summary: &Summary, commits: u64) -> usize
+    ensures { result ≡ min (commits - summary.now.dropped) (summary.now.commits - summary.now.dropped) }
+{
+    let known = commits.min(summary.commits);
+    known.saturating_sub(summary.dropped) as usize
 }
 
 /// The numbers, the rooms and what the command needs of the other rows. Refused as the store's fault if a row of `log` in scope breaks its

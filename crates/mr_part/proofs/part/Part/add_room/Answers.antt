@@ -10,7 +10,7 @@ pub returns-clause-step : goal.returns-clause-step
 returns-clause-step c = λ a sound part.
     let t = c.args.room.now in
     let i = c.self.inside in
-    let p : PartView = record { summary = i.summary; rooms = i.rooms.items; kept = i.kept.items; board = i.board } in
+    let p : PartView = record { summary = i.summary; rooms = i.rooms.items; kept = i.kept; board = i.board } in
     let e = c.self.view_is ∙ part in
     let rooms = c.deref.ensures.value ∙ ap (λ (v : PartView). v.rooms) e in
     let unknown : knows_room a t ≡ false = sym (λ i. list_any (bytes_eq t) (rooms i)) ∙ sym c.is_known.ensures ∙ c.if-is_known.false in

@@ -38,22 +38,19 @@ returns-clause-step c = λ a sound part.
     let i = c.self.inside in
     let k = c.args.k in
     let e = c.self.view_is ∙ part in
-    let p : PartView = record { summary = i.summary; rooms = i.rooms.items; kept = i.kept.items; board = i.board } in
+    let p : PartView = record { summary = i.summary; rooms = i.rooms.items; kept = i.kept; board = i.board } in
     let next = c.in_ok-change.field-0-0 in
     let server : i.summary.server ≡ a.server = ap (λ (v : PartView). v.summary.server) e in
     let primary : i.summary.primary ≡ a.primary = ap (λ (v : PartView). v.summary.primary) e in
     let own : (a.server == a.primary) ≡ true = (λ t. sym server t == a.primary) ∙ own_primary i.summary.server i.summary.primary a.primary c.ne.result c.ne.ensures c.if-ne.false primary in
-    let copies = c.in_ok-writes.ensures.writes ∙ ap row_writes c.deref.ensures.value in
-    let writes = c.deref-4.ensures.value ∙ copies in
-    let rows = c.deref-5.ensures.value ∙ c.in_ok-rows.ensures.rows ∙ ap row_undos c.deref-2.ensures.value in
-    let bys = c.deref-6.ensures.value ∙ c.in_ok-bys.ensures.cancellers ∙ ap (cancellers_on i.board) (c.deref-3.ensures.value ∙ copies) in
+    let copies = c.in_ok-writes.ensures.writes ∙ ap row_writes c.as_slice-kept.ensures in
+    let writes = c.deref-2.ensures.value ∙ copies in
+    let rows = c.deref-3.ensures.value ∙ c.in_ok-rows.ensures.rows ∙ ap row_undos c.as_slice-kept.ensures in
+    let bys = c.deref-4.ensures.value ∙ c.in_ok-bys.ensures.cancellers ∙ ap (cancellers_on i.board) (c.deref.ensures.value ∙ copies) in
     let numbers = c.in_ok-change.ensures.numbers ∙ ap (λ (ws : List Write). noted_commits i.summary (map id_of ws)) writes in
-    let done = part_commit a k p next c.deref-6.result.now c.in_ok-change.change sound e own numbers bys
+    let done = part_commit a k p next c.deref-4.result.now c.in_ok-change.change sound e own numbers bys
     (λ small.
     c.in_ok-change.ensures.change (subst (λ (ws : List Write). i.summary.commits + 1 + length ws < 18446744073709551616) (sym writes) small)
-    ∙ (λ t. written (meta_of next) [] (changed_tallies i.summary.tallies next.tallies) next.commits (i.summary.commits + 1) (writes t) (rows t) c.deref-6.result.now)) in
-    let len = c.len.ensures in
-    let ok = i.kept.ok in
-    let all = length-map i.kept.items (λ (x : KeptRow). x.write) in
-    let count : c.len.result ≡ length (row_writes i.kept.items) = omega (arith, len, ok, all) in
+    ∙ (λ t. written (meta_of next) [] (changed_tallies i.summary.tallies next.tallies) next.commits (i.summary.commits + 1) (writes t) (rows t) c.deref-4.result.now)) in
+    let count : length c.as_slice-kept.result.now ≡ length (row_writes i.kept) = ap length c.as_slice-kept.ensures ∙ sym (length-map i.kept (λ (x : KeptRow). x.write)) in
     inl (ap CommittedIs count ∙ done.0, done.1)

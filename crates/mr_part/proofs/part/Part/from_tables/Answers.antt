@@ -25,4 +25,4 @@ returns-in-Ok-clause-part c = λ a h e.
     let wanted = c.in_ok-summary.ensures.wanted in
     let test = c.in_ok-summary.wanted.bookings in
     let board = c.all.ensures ∙ c.in-Ok.ensures.board (tested_within a s t test h wanted.bookings_are e) ∙ board_told s t (tables_of a) test wanted.bookings_are e in
-    λ i. record { summary = numbers i; rooms = rooms i; kept = wanted.kept_are a h (ap without_bookings e) i; board = board i }
+    λ i. record { summary = numbers i; rooms = rooms i; kept = (c.own.ensures ∙ wanted.kept_are a h (ap without_bookings e)) i; board = board i }

@@ -22,4 +22,4 @@ returns-clause-part c = λ a h by e on.
     let set = c.in_ok-summary.wanted.bookings.rooms in
     let are = subst (λ (names : List Text). IsSetOf set names) (rooms_in_scope s a c.args.tables.now e) wanted.bookings_are.rooms_are in
     let board = c.in_rooms.ensures ∙ ap (seen_in set) on ∙ seen_is_in_scope a set s h by are in
-    λ i. record { summary = numbers i; rooms = rooms i; kept = wanted.kept_are a h e i; board = board i }
+    λ i. record { summary = numbers i; rooms = rooms i; kept = (c.own.ensures ∙ wanted.kept_are a h e) i; board = board i }

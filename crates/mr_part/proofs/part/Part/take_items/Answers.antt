@@ -31,13 +31,13 @@ returns-clause-step c = λ good short a sound part.
     let e = c.self.view_is ∙ part in
     let commits = ap (λ (v : PartView). v.summary.commits) e in
     let kept = ap (λ (v : PartView). v.kept) e in
-    let named = ap row_writes (c.deref.ensures.value ∙ kept) ∙ kept_writes a (kept_in (OfItems items) a) in
+    let named = ap row_writes (c.as_slice-kept.ensures ∙ kept) ∙ kept_writes a (kept_in (OfItems items) a) in
     let touched = flat_map (rooms_named (length a.commits) (filter (is_inside a items) (kept_in_order a))) items in
     let moving = subst (λ x. x) (λ t. IsMoving c.in_ok-moving.moving (flat_map (rooms_named (commits t) (named t)) items) (commits t) items) c.in_ok-moving.ensures.moving in
     let right = touched_told a items (is_inside a items) sound (λ w h. h) in
-    let rows = c.deref-2.ensures.value ∙ kept in
+    let rows = c.as_slice-kept.ensures ∙ kept in
     let undone =
-    c.deref-3.ensures.value ∙ c.in_ok-undone.ensures.rows touched items (length a.commits) moving
+    c.deref.ensures.value ∙ c.in_ok-undone.ensures.rows touched items (length a.commits) moving
     ∙ (λ t. row_undos (filter (moves_row touched items (length a.commits)) (rows t)))
     ∙ undos_moved a touched items (length a.commits) (kept_in (OfItems items) a)
     ∙ ap (map (undo_with (place_of a))) (undone_picked a items (is_inside a items) touched sound (λ w h. h) right) in

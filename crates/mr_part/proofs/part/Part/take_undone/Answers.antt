@@ -15,13 +15,18 @@ use Rattle.mr_part.proofs.TakingItems.{all_within}
 use Rattle.mr_part.proofs.ReceivingPart.{part_received, part_refused}
 use Rattle.mr_part.proofs.part.Part.take_undone.Goals as goal
 
+pub returns-in_err-kept-clause-step : goal.returns-in_err-kept-clause-step
+returns-in_err-kept-clause-step c = λ good short a sound part moving undone.
+    let x = err_from_is_err_and c.from_residual.result c.from_residual.ensures.1 in
+    inr (x.1 ∙ ap Err (x.2 ∙ c.in_err-kept.ensures.only))
+
 pub returns-in_err-reached-clause-step : goal.returns-in_err-reached-clause-step
 returns-in_err-reached-clause-step c = λ good short a sound part moving undone.
-    let x = err_from_is_err_and c.from_residual.result c.from_residual.ensures.1 in
+    let x = err_from_is_err_and c.from_residual-in_err-reached.result c.from_residual-in_err-reached.ensures.1 in
     let items = map item_of c.args.items.now in
     let e = c.self.view_is ∙ part in
-    part_refused a items c.from_residual.result c.in_err-reached.field-0.0 (x.1 ∙ ap Err x.2)
-    (c.in_err-reached.ensures.takes a (is_inside a items) sound good short (λ w h. h) (ap (λ (v : PartView). v.summary) e) (c.deref.ensures.value ∙ ap (λ (v : PartView). v.rooms) e) (ap (λ (v : PartView). v.kept) e))
+    part_refused a items c.from_residual-in_err-reached.result c.in_err-reached.field-0.0 (x.1 ∙ ap Err x.2)
+    (c.in_err-reached.ensures.takes a (is_inside a items) sound good short (λ w h. h) (ap (λ (v : PartView). v.summary) e) (c.deref.ensures.value ∙ ap (λ (v : PartView). v.rooms) e) (c.in_ok-kept.ensures.rows ∙ ap (λ (v : PartView). v.kept) e))
 
 pub returns-in_err-anew-clause-step : goal.returns-in_err-anew-clause-step
 returns-in_err-anew-clause-step c = λ good short a sound part moving undone.
@@ -41,7 +46,7 @@ returns-clause-step c = λ good short a sound part moving undone.
     let items = map item_of c.args.items.now in
     let e = c.self.view_is ∙ part in
     let reached = c.in_ok-reached.reached in
-    let (p, exact, shows) = c.in_ok-reached.ensures.takes a (is_inside a items) sound good short (λ w h. h) (ap (λ (v : PartView). v.summary) e) (c.deref.ensures.value ∙ ap (λ (v : PartView). v.rooms) e) (ap (λ (v : PartView). v.kept) e) in
+    let (p, exact, shows) = c.in_ok-reached.ensures.takes a (is_inside a items) sound good short (λ w h. h) (ap (λ (v : PartView). v.summary) e) (c.deref.ensures.value ∙ ap (λ (v : PartView). v.rooms) e) (c.in_ok-kept.ensures.rows ∙ ap (λ (v : PartView). v.kept) e) in
     let b = p.replica in
     let view = c.reached.view_is in
     let m = batches_move_touched_rooms items 2 (nothing_taken a) p sound (all_within items good) exact in
@@ -66,12 +71,13 @@ returns-clause-step c = λ good short a sound part moving undone.
     }) in
     let held = c.len-had.ensures in
     let have = c.len.ensures in
-    let old = c.self.inside.kept.ok in
+    let old = c.in_ok-kept.kept.ok in
+    let own = ap length c.in_ok-kept.ensures.rows in
     let new = c.reached.inside.kept.ok in
     let before_kept = ap (λ (v : PartView). length v.kept) c.self.view_is in
     let now = ap (λ (v : ReachedView). length v.kept) view in
     let more = c.saturating_sub-writes.ensures in
-    let counted : c.saturating_sub-writes.result ≡ length reached.kept - length c.args.self.kept = omega (arith, held, have, old, new, before_kept, now, more) in
+    let counted : c.saturating_sub-writes.result ≡ length reached.kept - length c.args.self.kept = omega (arith, held, have, old, own, new, before_kept, now, more) in
     let before = ap (λ (v : PartView). v.summary.commits) c.self.view_is in
     let after = ap (λ (v : ReachedView). v.summary.commits) view in
     let rise = c.saturating_sub-commits.ensures in

@@ -14,8 +14,8 @@ pub returns-clause-step : goal.returns-clause-step
 returns-clause-step c = λ a sound part.
     let i = c.self.inside in
     let n = c.args.number in
-    let p : PartView = record { summary = i.summary; rooms = i.rooms.items; kept = c.deref.result.now; board = i.board } in
-    let e = (λ t. record { summary = i.summary; rooms = i.rooms.items; kept = c.deref.ensures.value t; board = i.board }) ∙ c.self.view_is ∙ part in
+    let p : PartView = record { summary = i.summary; rooms = i.rooms.items; kept = c.as_slice.result.now; board = i.board } in
+    let e = (λ t. record { summary = i.summary; rooms = i.rooms.items; kept = c.as_slice.ensures t; board = i.board }) ∙ c.self.view_is ∙ part in
     let server : i.summary.server ≡ a.server = ap (λ (v : PartView). v.summary.server) e in
     let primary : i.summary.primary ≡ a.primary = ap (λ (v : PartView). v.summary.primary) e in
     let commits : i.summary.commits ≡ length a.commits = ap (λ (v : PartView). v.summary.commits) e in

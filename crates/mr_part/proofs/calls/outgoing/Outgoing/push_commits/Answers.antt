@@ -7,7 +7,7 @@ use Rattle.mr_model.specs.Step.{item_if_lacked}
 use Rattle.mr_part.specs.declared.kept_rows.KeptRow.{KeptRow}
 use Rattle.mr_part.specs.KeptRows.{row_writes}
 use Rattle.mr_part.specs.Outgoing.{Offers, committed_items, lacked_items}
-use Rattle.mr_part.proofs.Batching.{committed_items-more, row_more}
+use Rattle.mr_part.proofs.Batching.{committed_items-more, committed_full, row_more}
 use Rattle.mr_model.proofs.BatchesReadBack.{only_if_some}
 use Rattle.mr_part.proofs.calls.outgoing.Outgoing.push_commits.Goals as goal
 
@@ -46,3 +46,8 @@ loop-k-preserved c =
           subst (λ xs. Offers old xs c.push_commit.new.self.items.items c.push_commit.new.self.more) all
           (subst (λ n. Offers n (((items ++ front) ++ (lacked ++ [])) ++ model.C c.in-Some.seq c.id.result ∷ []) c.push_commit.new.self.items.items c.push_commit.new.self.more) limit' last),
     )
+
+-- the limit is reached
+pub returns-then-self-clause-items : goal.returns-then-self-clause-items
+returns-then-self-clause-items c = λ items offers.
+    committed_full c.args.self.now.limit c.args.position.now c.args.first items c.args.rows.now c.loop-k.k c.loop-k.self.items.items c.loop-k.self.more (c.loop-k.invariant.1 items offers) c.if-self.true

@@ -1,7 +1,7 @@
 use Rattle.std.proofs.Common.{◌≡◌, ◌+◌, ◌++◌, [], ◌∷◌, take, sym, ap, ◌∙◌, subst, append_assoc}
 use Rattle.mr_part.specs.KeptRows.{row_writes}
 use Rattle.mr_part.specs.Outgoing.{Offers, lacked_items}
-use Rattle.mr_part.proofs.Batching.{lacked_items-append, row_more}
+use Rattle.mr_part.proofs.Batching.{lacked_items-append, lacked_full, row_more}
 use Rattle.mr_part.proofs.calls.outgoing.Outgoing.push_lacked.Goals as goal
 
 pub loop-row-preserved : goal.loop-row-preserved
@@ -24,3 +24,8 @@ loop-row-preserved c =
           subst (λ xs. Offers c.args.self.now.limit xs c.push_if_lacked.new.self.items.items c.push_if_lacked.new.self.more) all
           (subst (λ n. Offers n ((items ++ front) ++ lacked_items p (w ∷ [])) c.push_if_lacked.new.self.items.items c.push_if_lacked.new.self.more) limit more),
     )
+
+-- the limit is reached
+pub returns-then-self-clause-items : goal.returns-then-self-clause-items
+returns-then-self-clause-items c = λ items offers.
+    lacked_full c.args.self.now.limit c.args.position.now items c.args.rows.now c.loop-row.row-index c.loop-row.self.items.items c.loop-row.self.more (c.loop-row.invariant.1 items offers) c.if-self.true
