@@ -1,6 +1,6 @@
 // Any room: of those that are free the first one is asked for, and the next if that had gone. A request that found no room is withdrawn
 // before the next one is sent, so that never two are booked; where no reply comes, none is sent any more.
-import { byId, buttonOf, clashesOf, hoursText, isPlain, MIDNIGHT, plainOf, timeOf, weekday } from './texts.js';
+import { byId, buttonOf, clashesOf, hoursText, isPlain, MIDNIGHT, plainOf, timeOf, dayText } from './texts.js';
 import { Fault, ask, askMayBook, askSheet, labelOf, page } from './office.js';
 import { sendCancel } from './cancel.js';
 import { firstFree } from './find.js';
@@ -63,7 +63,7 @@ async function askInTurn(title) {
   say(gone ? 'Not booked: all that was free had gone by then.' : 'Not booked: no room is free for that long.');
 }
 
-const wordsOf = ({ room, day, start, length }) => labelOf(room) + ', ' + weekday(day) + ' ' + day + ', ' + hoursText(start, start + length);
+const wordsOf = ({ room, day, start, length }) => labelOf(room) + ', ' + dayText(day) + ', ' + hoursText(start, start + length);
 
 /** One request: `booked`, `gone`, or `stop` where nothing more may be sent. */
 async function askOne(place, title) {

@@ -1,5 +1,5 @@
 // The box of a booking of a sheet, whoever made it.
-import { byId, el, buttonOf, hoursText, minuteOf, timeOf, weekday } from './texts.js';
+import { byId, el, buttonOf, hoursText, minuteOf, timeOf, dayText } from './texts.js';
 import { askOutcome, clock, labelOf, sinceOf, stateKey } from './office.js';
 import { cancelButton, disarm, troubleOf } from './cancel.js';
 import { openMove } from './move.js';
@@ -32,7 +32,7 @@ export function showBox() {
   const since = outcome ? 'Seen so since ' + clock(sinceOf(stateKey(box.room, outcome))) + '.' : '';
   const held = document.activeElement && document.activeElement.dataset.box;
   byId('box').replaceChildren(el('h2', { id: 'box-title' }, box.title),
-    el('p', {}, el('b', {}, labelOf(box.room)), ', ' + weekday(day) + ' ' + day + ', ', el('b', { className: 'hours' }, hours)),
+    el('p', {}, el('b', {}, labelOf(box.room)), ', ' + dayText(day) + ', ', el('b', { className: 'hours' }, hours)),
     el('p', {}, chipOf(word, kind), ' ' + words), el('p', { className: 'hint' }, 'Request ' + box.id + '. ' + since),
     el('p', { className: 'error', role: 'alert' }, outcome ? troubleOf(box) : ''),
     el('p', { className: 'buttons' }, isBooked ? cancelButton(box, 'Cancel this booking', (text, act) => boxButton(text, 'cancel', act)) : null,

@@ -1,6 +1,7 @@
 // How a booking is cancelled, and a request without a room withdrawn: both are a cancel of the request, which is pressed twice and sent once.
 import { Fault, ask, askMayBook, page } from './office.js';
 import { report } from './states.js';
+import { say } from './words.js';
 
 const REFUSALS = {
   7: 'this office does not know the room',
@@ -71,7 +72,7 @@ function trouble(booking, words) {
 function replied(booking, { status, json }) {
   const { past } = wordsOf(booking), isWithdrawn = booking.now.state === 'logged';
   if (status === 503) return trouble(booking, 'Perhaps ' + past + ' (' + json.name + '): its state here shows it.');
-  if (status !== 200) return trouble(booking, 'Not ' + past + ': ' + (REFUSALS[json.refusal] || json.name || 'it cannot be read') + '.');
+  if (status !== 200) return trouble(booking, 'Not ' + past + ': ' + (REFUSALS[json.refusal] || json.name || say('fault.unreadable')) + '.');
   if (json.state === 'cancels') {
     return (isWithdrawn ? 'It had found room by now, and is cancelled: ' : 'Cancelled: ') + booking.title + ', by request ' + json.id + '; not final yet.';
   }

@@ -6,7 +6,7 @@
 // and movelist.js (changes), grid.js, newslist.js over news.js, and this file.
 // Each of the lower ones reaches the page as a whole by `page` of office.js.
 // Views beside the grid: month.js, coming.js, find.js over needs.js, with anyroom.js, and search.js; ahead.js says which of their sheets are asked for.
-import { byId, el, dayBeside, FIRST, isDay, LAST, MIDNIGHT, put, timeOf, weekday } from './texts.js';
+import { byId, el, dayBeside, FIRST, isDay, LAST, MIDNIGHT, put, timeOf, dayText } from './texts.js';
 import { Fault, askErrors, askOffice, askSheet, at, clock, labelOf, missed, momentOf, now, office, page, sheetOf, silence } from './office.js';
 import { closeBox } from './box.js';
 import { askMine, readMine, showMine, takeMine } from './mine.js';
@@ -31,6 +31,8 @@ import { monthBeside, monthColumns, monthTitle, moveInMonth, showMonth } from '.
 import { comingColumns, comingTitle, openComing, showComing } from './coming.js';
 import { showSearch } from './search.js';
 import { keepFiles } from './offline.js';
+import { fillWords } from './filling.js';
+import { startLanguageMenu } from './languagemenu.js';
 import { printDoor } from './print.js';
 import { columns, focusGrid, keepCursor, moveCursor, showGrid, watchWidth, weekShown } from './grid.js';
 
@@ -141,7 +143,7 @@ function showHead() {
   const week = weekShown();
   byId('sheet-title').textContent = at.view === 'week' ? labelOf(at.room) + ', ' + week[0] + ' to ' + week.at(-1)
     : at.view === 'month' ? monthTitle() : at.view === 'coming' ? comingTitle() : at.view === 'search' ? 'Search'
-      : (at.view === 'find' ? 'Free rooms, ' : '') + weekday(at.day) + ' ' + at.day;
+      : (at.view === 'find' ? 'Free rooms, ' : '') + dayText(at.day);
   byId('day').value = at.day;
   byId('at-room').value = at.room;
   byId('before').disabled = at.day === FIRST;
@@ -167,6 +169,8 @@ function showAlarm(read, isRead) {
 }
 
 function start() {
+  fillWords();
+  startLanguageMenu(byId('language'));
   Object.assign(page, { show, showLists() { showMine(); showNews(); showErrors(); }, round, goTo });
   dropOldSheets();
   readMine();

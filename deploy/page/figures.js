@@ -2,6 +2,7 @@
 // found no room and what merges did. The bars are drawn here; nothing comes from anywhere else.
 import { byId, el } from './texts.js';
 import { rowsOf } from './table.js';
+import { fillWords } from './filling.js';
 
 const COUNTS = ['open', 'booked', 'outside', 'bookings', 'no_room', 'moved', 'lost'];
 const HEADS = ['Booked', 'Open', 'Part', '', 'Outside the open hours', 'Bookings', 'Without a room', 'Moved by a merge', 'Lost by a merge'];
@@ -60,6 +61,7 @@ function fill(id, options, chosen) {
 }
 
 async function start() {
+  fillWords();
   const reply = await fetch(new URL('/figures.csv', location.origin), { cache: 'no-store' }).catch(() => null);
   if (!reply || reply.status !== 200) {
     byId('trouble').textContent = 'There are no figures yet' + (reply ? '' : ', or no connection') + ': the office’s service writes them, some minutes after it began.';

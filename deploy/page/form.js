@@ -1,5 +1,5 @@
 // The request form: what is asked before a wish is sent, and what comes back.
-import { byId, buttonOf, hoursText, isDay, isPlain, plainOf, weekday } from './texts.js';
+import { byId, buttonOf, hoursText, isDay, isPlain, plainOf, dayText } from './texts.js';
 import { Fault, ask, askMayBook, askSheet, labelOf, now, page } from './office.js';
 import { calm, complain } from './fields.js';
 import { addMine, dropMine, keepMine, replied } from './mine.js';
@@ -111,7 +111,7 @@ async function accepted(entry, asked, outcome) {
   giveAddress(outcome);
   if (outcome.state !== 'booked') return noRoom(entry, asked);
   const place = (asked.alternatives || []).findIndex(slot => sameSlot(slot, outcome));
-  const words = stateOf(outcome)[0] + ': ' + labelOf(asked.room) + ', ' + weekday(outcome.day) + ' ' + outcome.day + ', ' +
+  const words = stateOf(outcome)[0] + ': ' + labelOf(asked.room) + ', ' + dayText(outcome.day) + ', ' +
     outcome.start + '–' + outcome.stop + ' (request ' + outcome.id + ').';
   startOver();
   report(words + (place < 0 ? '' : ' That is alternative ' + (place + 1) + ': ' + slotText(asked) + ' was taken.'), true);

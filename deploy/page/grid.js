@@ -1,10 +1,11 @@
 // The sheets as columns to scale: the day of all rooms, the week of one, or, on a narrow screen, the day of one. A free quarter
 // hour and a booking are buttons; the wish and its alternatives are drawn over them with their whole length.
-import { byId, dayBeside, el, clashesOf, freeOf, hoursText, MIDNIGHT, timeOf, weekday, weekOf } from './texts.js';
+import { byId, dayBeside, el, clashesOf, freeOf, hoursText, MIDNIGHT, timeOf, weekday, weekOf, dateText, dayText } from './texts.js';
 import { at, labelOf, now, office, sheetOf } from './office.js';
 import { choices, chooseSlot } from './wish.js';
 import { openBox } from './box.js';
 import { stateOf } from './states.js';
+import { say } from './words.js';
 
 const QUARTER = 15, HOUR = 60, FEW = 2;
 const narrow = matchMedia('(max-width: 600px)');
@@ -12,14 +13,14 @@ let cursor = '';        // the key of the button that Tab reaches
 let scrolledFor = '';   // what was scrolled to its first hour already
 let drawn = '';         // what the grid shows
 
-/** The days of the week that is shown: from Monday on, or, on a narrow screen, which has room for few of them, from the chosen day on. */
+/** The days of the week that is shown: a whole week, or, on a narrow screen, which has room for few of them, from the chosen day on. */
 export function weekShown() {
   return narrow.matches ? [...new Set([0, 1, 2, 3, 4, 5, 6].map(step => dayBeside(at.day, step)))] : weekOf(at.day);
 }
 
 /** What is shown beside one another: each column is a room on a day. */
 export function columns() {
-  if (at.view === 'week') return weekShown().map(day => ({ room: at.room, day, label: weekday(day) + ' ' + day, lines: [weekday(day), day] }));
+  if (at.view === 'week') return weekShown().map(day => ({ room: at.room, day, label: dayText(day), lines: [weekday(day), dateText(day)] }));
   const names = narrow.matches && office.rooms.length > FEW ? [at.room] : office.rooms.map(room => room.name);
   return names.map(room => ({ room, day: at.day, label: labelOf(room), lines: [labelOf(room)] }));
 }
@@ -90,7 +91,7 @@ function bodyOf(column, from, to) {
   const sheet = sheetOf(column.room, column.day);
   const body = el('div', { className: 'body' });
   if (!sheet || !sheet.rows) {
-    body.append(el('p', { className: 'unknown' }, sheet ? 'This office does not know the room.' : 'Not read yet.'));
+    body.append(el('p', { className: 'unknown' }, sheet ? say('all.unknownRoom') : say('all.notRead')));
     return body;
   }
   const cells = [...sheet.rows.map(row => bookingOf(column, row)), ...slotsOf(column, sheet.rows, from, to)];

@@ -1,5 +1,5 @@
 // The groups of the office: what became of each of their requests, and the cancel of a whole one, which is pressed twice.
-import { byId, el, buttonOf, hoursText, minuteOf, renew, weekday } from './texts.js';
+import { byId, el, buttonOf, hoursText, minuteOf, renew, dayText } from './texts.js';
 import { Fault, askOutcome, askSheet, labelOf, now, page } from './office.js';
 import { sendCancel } from './cancel.js';
 import { groups, keepGroup } from './groups.js';
@@ -85,7 +85,7 @@ function chipOfItem(item, outcome) {
 function rowOf(item) {
   const { room, day, start, length, title, id } = item, outcome = outcomes.get(keyOf(item)), from = minuteOf(start);
   const isMoved = outcome && outcome.state === 'booked' && (outcome.day !== day || outcome.start !== start);
-  const words = ' ' + weekday(day, 'short') + ' ' + day + ' ' + hoursText(from, from + length) + ', ' + labelOf(room) + ', ' + title + (id ? ', request ' + id : '');
+  const words = ' ' + dayText(day, 'short') + ' ' + hoursText(from, from + length) + ', ' + labelOf(room) + ', ' + title + (id ? ', request ' + id : '');
   return el('li', {}, chipOfItem(item, outcome), words, isMoved ? el('b', {}, ', now ' + outcome.day + ' ' + outcome.start) : null);
 }
 

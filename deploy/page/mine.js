@@ -1,5 +1,5 @@
 // My requests: those of this browser, kept in it and nowhere else, with what became of them, day by day.
-import { byId, el, buttonOf, renew, weekday } from './texts.js';
+import { byId, el, buttonOf, renew, dayText } from './texts.js';
 import { labelOf, now, page } from './office.js';
 import { askBox, showBox } from './box.js';
 import { cancelButton, troubleOf } from './cancel.js';
@@ -136,7 +136,7 @@ async function takeOff(entry) {
 /** The entries of a day, folded if there are many and it isn't shown: the latest first. */
 function dayItem(day, entries, isOpen) {
   const lost = entries.filter(entry => entry.now && !isBooked(entry) && entry.now.state !== 'cancelled' && !entry.withdrawn).length;
-  const summary = el('summary', {}, weekday(day, 'short') + ' ' + day + ' ', el('span', { className: 'count' }, countOf(entries.length)),
+  const summary = el('summary', {}, dayText(day, 'short') + ' ', el('span', { className: 'count' }, countOf(entries.length)),
     lost ? el('span', { className: 'bad' }, ', ' + lost + ' without a room') : null);
   const details = el('details', { open: folded.get(day) ?? isOpen, 'aria-label': day }, summary, el('ul', {}, ...entries.map(itemOf)));
   summary.addEventListener('click', () => folded.set(day, !details.open));

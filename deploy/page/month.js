@@ -1,5 +1,6 @@
 // The month of a room: a day is a button with its bookings, which leads to that day. Arrow keys move from day to day.
-import { byId, dayBeside, el, buttonOf, FIRST, LAST, put, renew, timeOf, weekday, weekOf } from './texts.js';
+import { byId, dayBeside, el, buttonOf, FIRST, LAST, put, renew, placeInWeek, timeOf, weekday, weekOf, dayText } from './texts.js';
+import { locale } from './language.js';
 import { at, labelOf, now, page, sheetOf } from './office.js';
 
 const FEW = 3, MOST_DAYS = 31;
@@ -7,7 +8,7 @@ let cursor = '';        // the day that Tab reaches
 let isStepped = false;  // a key led into another month, where the focus goes
 
 const monthOf = day => day.slice(0, 7);
-const nameOf = day => new Date(monthOf(day) + '-15T12:00:00Z').toLocaleDateString('en-GB', { month: 'long', year: 'numeric', timeZone: 'UTC' });
+const nameOf = day => new Date(monthOf(day) + '-15T12:00:00Z').toLocaleDateString(locale, { month: 'long', year: 'numeric', timeZone: 'UTC' });
 
 function daysOf(day) {
   const first = monthOf(day) + '-01', days = [];
@@ -33,15 +34,15 @@ function cellOf(day) {
   const titles = rows.slice(0, FEW).map(row => el('span', { className: 'meeting' + (row.mark === 'C' ? '' : ' waiting') }, timeOf(row.start) + ' ' + row.title));
   const more = rows.length > FEW ? [el('span', { className: 'hint' }, 'and ' + (rows.length - FEW) + ' more')] : [];
   const button = buttonOf('', () => page.goTo({ day, view: 'day' }), { className: 'date' + (day === now().day ? ' today' : '') + (rows.length ? ' used' : ''), tabIndex: -1,
-    'aria-label': weekday(day) + ' ' + day + ', ' + words + rows.map(row => ', ' + timeOf(row.start) + ' ' + row.title).join('') });
+    'aria-label': dayText(day) + ', ' + words + rows.map(row => ', ' + timeOf(row.start) + ' ' + row.title).join('') });
   button.append(el('b', {}, number), ' ', el('span', { className: 'count' }, sheet ? rows.length ? String(rows.length) : '' : '…'), ...titles, ...more);
   button.dataset.day = day;
   return button;
 }
 
 export function showMonth() {
-  const place = byId('month'), held = place.contains(document.activeElement) && document.activeElement.dataset.day, days = daysOf(at.day), week = weekOf(days[0]);
-  const before = week.filter(day => day < days[0]).length, cells = [...Array(before).fill(null), ...days];
+  const place = byId('month'), held = place.contains(document.activeElement) && document.activeElement.dataset.day, days = daysOf(at.day);
+  const before = placeInWeek(days[0]), cells = [...Array(before).fill(null), ...days];
   const rows = Array.from({ length: Math.ceil(cells.length / 7) }, (_, line) => Array.from({ length: 7 }, (__, column) => cells[7 * line + column] || null));
   const heads = weekOf('1995-12-18').map(day => el('th', { scope: 'col', abbr: weekday(day) }, weekday(day, 'short')));
   renew(place, el('table', { 'aria-label': monthTitle() }, el('thead', {}, el('tr', {}, ...heads)),

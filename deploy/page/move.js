@@ -1,5 +1,5 @@
 // The form in which a booking is moved, lengthened, shortened or renamed. It says what is in the way and what may be lost before anything is sent.
-import { byId, el, buttonOf, FIRST, hoursText, isDay, isPlain, LAST, minuteOf, plainOf, put, renew, weekday } from './texts.js';
+import { byId, el, buttonOf, FIRST, hoursText, isDay, isPlain, LAST, minuteOf, plainOf, put, renew, dayText } from './texts.js';
 import { Fault, labelOf, office, page } from './office.js';
 import { askMoves } from './movelist.js';
 import { inTheWay, isSame, lossWords, move } from './moving.js';
@@ -25,7 +25,7 @@ function fieldsOf() {
 }
 
 function formOf() {
-  const words = labelOf(old.room) + ', ' + weekday(old.day) + ' ' + old.day + ', ' + hoursOf(old) + ', request ' + old.id + '.';
+  const words = labelOf(old.room) + ', ' + dayText(old.day) + ', ' + hoursOf(old) + ', request ' + old.id + '.';
   const form = el('form', { noValidate: true, autocomplete: 'off' }, el('h2', { id: 'move-title' }, 'Change: ' + old.title), el('p', { className: 'hint' }, words),
     fieldsOf(), el('p', { id: 'move-loss', className: 'hint' }), el('p', { id: 'move-way', className: 'error', role: 'status' }),
     el('p', { id: 'move-free', className: 'buttons' }), el('p', { id: 'move-outcome', role: 'status' }),

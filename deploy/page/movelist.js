@@ -1,5 +1,5 @@
 // Changes of bookings that were broken off: what of each stands at the office, and what may be done about it.
-import { byId, el, buttonOf, hoursText, minuteOf, renew, weekday } from './texts.js';
+import { byId, el, buttonOf, hoursText, minuteOf, renew, dayText } from './texts.js';
 import { Fault, labelOf, page } from './office.js';
 import { replaceInGroups } from './groups.js';
 import { adoptMine } from './mine.js';
@@ -34,7 +34,7 @@ async function look(move) {
 
 function slotWords({ room, day, start, length }) {
   const from = minuteOf(start);
-  return labelOf(room) + ', ' + weekday(day, 'short') + ' ' + day + ' ' + hoursText(from, from + length);
+  return labelOf(room) + ', ' + dayText(day, 'short') + ' ' + hoursText(from, from + length);
 }
 
 /** What stands of a move, and the buttons that go with it. */

@@ -6,6 +6,7 @@ import { replaceInGroups } from './groups.js';
 import { adoptMine } from './mine.js';
 import { alone, dropMove, keepMove } from './moves.js';
 import { patiently, sendRequest } from './sending.js';
+import { say } from './words.js';
 
 const stopOf = ({ start, length }) => minuteOf(start) + length;
 const slotWords = slot => labelOf(slot.room) + ', ' + slot.day + ' ' + hoursText(minuteOf(slot.start), stopOf(slot));
@@ -26,7 +27,7 @@ export function lossWords(old, wish) {
 /** What is in the way of a move, by the sheet as it is now, in words. */
 export async function inTheWay(old, wish) {
   const { rows } = await askSheet(wish.room, wish.day);
-  if (!rows) return 'This office does not know the room.';
+  if (!rows) return say('all.unknownRoom');
   return clashesOf(rows, minuteOf(wish.start), stopOf(wish)).filter(row => row.id !== old.id)
     .map(row => hoursText(row.start, row.stop) + ' is ' + row.title + '.').join(' ');
 }
@@ -119,7 +120,7 @@ async function backAgain(it, outcome, cause) {
 export async function cancel({ room, id }) {
   try {
     const reply = await patiently(() => ask('/cancel', JSON.stringify({ id, room })));
-    if (reply.status !== 200) throw new Fault(true, reply.json.name || 'it cannot be read');
+    if (reply.status !== 200) throw new Fault(true, reply.json.name || say('fault.unreadable'));
     return reply;
   } catch (fault) {
     if (!(fault instanceof Fault) || !fault.sent) throw fault;

@@ -1,5 +1,5 @@
 // The bar that says how many meetings lost their room or moved, and the list that it leads to, day by day.
-import { byId, el, buttonOf, minuteOf, put, renew, weekday } from './texts.js';
+import { byId, el, buttonOf, minuteOf, put, renew, dayText } from './texts.js';
 import { labelOf, office, page } from './office.js';
 import { cancelButton, troubleOf } from './cancel.js';
 import { askAgain } from './wish.js';
@@ -15,7 +15,7 @@ const bookings = new Map();   // what is known of a request here: whether it was
 let isOpen = false;
 
 const HEADS = { lost: ['Lost its room', 'none'], moved: ['Moved', 'open'], found: ['Found a room', 'sure'], cancelled: ['Cancelled', 'cancelled'] };
-const slotText = slot => weekday(slot.day, 'short') + ' ' + slot.day + ' ' + slot.start + (slot.stop ? '–' + slot.stop : '');
+const slotText = slot => dayText(slot.day, 'short') + ' ' + slot.start + (slot.stop ? '–' + slot.stop : '');
 
 /** A change in words. */
 function changeText({ kind, from, to, by, wish }) {
@@ -66,13 +66,13 @@ async function tellOf(entries) {
 }
 
 async function tellDay(day, entries) {
-  const words = 'All ' + entries.length + ' of ' + weekday(day) + ' ' + day + ' were told? They leave the list at all desks of this office.';
+  const words = 'All ' + entries.length + ' of ' + dayText(day) + ' were told? They leave the list at all desks of this office.';
   if (await sure(words, 'All were told', 'No')) tellOf(entries);
 }
 
 function dayItem(day, entries, isFew) {
   const isShown = folded.get(day) ?? isFew, count = whole.has(day) ? entries.length : MOST_OF_DAY;
-  const summary = el('summary', {}, weekday(day) + ' ' + day + ': ' + newsLine(entries));
+  const summary = el('summary', {}, dayText(day) + ': ' + newsLine(entries));
   summary.dataset.key = 'newsfold ' + day;
   summary.addEventListener('click', event => {
     event.preventDefault();

@@ -1,5 +1,5 @@
 // What is free instead, after a request found no room; and the request that it stands in for, which is withdrawn once another is booked.
-import { byId, el, buttonOf, hoursText, minuteOf, nearestOf, timeOf, weekday } from './texts.js';
+import { byId, el, buttonOf, hoursText, minuteOf, nearestOf, timeOf, dayText } from './texts.js';
 import { Fault, askSheet, labelOf, office } from './office.js';
 import { sendCancel } from './cancel.js';
 import { sure } from './question.js';
@@ -28,7 +28,7 @@ export async function showOffers(place, wish, take) {
     const starts = rows ? nearestOf(rows, wish.length, minuteOf(wish.start), office.from, office.to).slice(0, most) : [];
     if (starts.length) paragraphs.push(el('p', {}, el('b', {}, 'Free in ' + labelOf(name) + ': '), ...starts.map(start => offerButton(name, start, wish, take))));
   }
-  if (!paragraphs.length) paragraphs.push(el('p', {}, 'Nothing of that length is free on ' + weekday(wish.day) + ' ' + wish.day + ' in any room.'));
+  if (!paragraphs.length) paragraphs.push(el('p', {}, 'Nothing of that length is free on ' + dayText(wish.day) + ' in any room.'));
   place.replaceChildren(...paragraphs);
 }
 

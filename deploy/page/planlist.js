@@ -1,5 +1,5 @@
 // The list of a plan: what is free, what is taken and by what, what came of each request; by state, the long parts folded.
-import { el, buttonOf, minuteOf, nearestOf, hoursText, renew, byId, timeOf, weekday } from './texts.js';
+import { el, buttonOf, minuteOf, nearestOf, hoursText, renew, byId, timeOf, dayText } from './texts.js';
 import { Fault, askSheet, labelOf, office } from './office.js';
 import { hoursOfItem, mayAsk, STATES } from './plan.js';
 import { chipOf } from './states.js';
@@ -34,7 +34,7 @@ function partOf(state, own, act, isGoing) {
   return details;
 }
 
-const whenOf = item => weekday(item.day, 'short') + ' ' + item.day + ' ' + hoursOfItem(item);
+const whenOf = item => dayText(item.day, 'short') + ' ' + hoursOfItem(item);
 
 function rowOf(item, act, isGoing) {
   const what = item.state === 'bad' ? item.title : whenOf(item) + ', ' + labelOf(item.room) + ', ' + item.title, words = (item.line ? 'Line ' + item.line + ': ' : '') + what;

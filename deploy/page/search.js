@@ -1,5 +1,5 @@
 // Titles that are searched for, over the sheets that this browser has read: those of this page, and those that it kept of earlier times.
-import { byId, el, buttonOf, hoursText, put, renew, weekday } from './texts.js';
+import { byId, el, buttonOf, hoursText, put, renew, dayText } from './texts.js';
 import { knownSheets, labelOf, page } from './office.js';
 
 const MOST = 100;
@@ -11,7 +11,7 @@ function marked(title, wanted) {
 }
 
 function itemOf({ room, day, row }, wanted) {
-  const words = weekday(day, 'short') + ' ' + day + ', ' + hoursText(row.start, row.stop) + ', ' + labelOf(room);
+  const words = dayText(day, 'short') + ', ' + hoursText(row.start, row.stop) + ', ' + labelOf(room);
   return el('li', {}, marked(row.title, wanted), el('span', {}, ' ' + words + ' '),
     buttonOf('Show the day', () => page.goTo({ day, room, view: 'day' }), { 'aria-label': 'Show the day: ' + row.title + ', ' + words }));
 }

@@ -3,6 +3,7 @@
 import { minuteOf, timeOf } from './texts.js';
 import { Fault, ask, askErrors, askMayBook, askSheet } from './office.js';
 import { REFUSALS } from './form.js';
+import { say } from './words.js';
 
 const PAUSE = 1000, TRIES = 60;
 
@@ -14,7 +15,7 @@ export async function patiently(act, isStopped = () => false) {
     try {
       return await act();
     } catch (fault) {
-      if (!(fault instanceof Fault) || fault.sent || !/not taking/.test(fault.message) || !left || isStopped()) throw fault;
+      if (!(fault instanceof Fault) || fault.sent || !fault.isPause || !left || isStopped()) throw fault;
       await pause();
     }
   }
@@ -26,7 +27,7 @@ export async function sendRequest(asked, isStopped) {
   try {
     const { status, json } = await patiently(() => ask('/submit', JSON.stringify(asked)), isStopped);
     if (status === 200) return { kind: json.state === 'booked' ? 'booked' : 'none', outcome: json, words: '' };
-    if (status !== 503) return { kind: 'refused', outcome: null, isLast: [13, 14].includes(json.refusal), words: (REFUSALS[json.refusal] || [])[1] || json.name || 'it cannot be read' };
+    if (status !== 503) return { kind: 'refused', outcome: null, isLast: [13, 14].includes(json.refusal), words: (REFUSALS[json.refusal] || [])[1] || json.name || say('fault.unreadable') };
     return await found(asked, json.name);
   } catch (fault) {
     if (!(fault instanceof Fault) || !fault.sent) throw fault;

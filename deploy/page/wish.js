@@ -1,5 +1,5 @@
 // The wish and its alternatives: how they are chosen, and what the form shows of them.
-import { byId, el, buttonOf, clashesOf, hoursText, isDay, isPlain, MIDNIGHT, minuteOf, plainOf, put, renew, timeOf, weekday } from './texts.js';
+import { byId, el, buttonOf, clashesOf, hoursText, isDay, isPlain, MIDNIGHT, minuteOf, plainOf, put, renew, timeOf, weekday, dayText } from './texts.js';
 import { labelOf, now, page, sheetOf } from './office.js';
 import { calm } from './fields.js';
 import { offerTaken, showOffers, standsFor, standsForNone } from './offers.js';
@@ -112,7 +112,7 @@ export function showForm() {
       { 'aria-label': 'Take back ' + slotText(slot) }))));
   const [first] = choices();
   const hours = isWished() ? hoursText(first.from, first.to) : '';
-  put({ 'wish-words': hours && isDay(first.day) ? weekday(first.day) + ' ' + first.day + ', ' + hours : '',
+  put({ 'wish-words': hours && isDay(first.day) ? dayText(first.day) + ', ' + hours : '',
     clash: hours && clashWords(first), 'go-on': hours && 'Go on: ' + labelOf(first.room) + ', ' + hours });
   byId('go-on').hidden = !hours;
   countTitle();
