@@ -141,7 +141,7 @@ def strings_of(text):
 def is_words(text):
     """Whether a text looks like words that somebody reads."""
     bare = PLACE.sub('', text)
-    return re.search(r"[A-Za-z’]{2,}[,.;:?!]? +[A-Za-z(“]|^ ?[A-Z][a-z’]|[a-z]{2}[.:?!] ?$", bare) is not None
+    return re.search(r"[A-Za-z’]{2,}[,.;:?!]? +[A-Za-z(“]|^ ?[A-Z][a-z’]|[a-z]{2}[.:?!] ?$|^[,;] .*[a-z]|[a-z][,;] $", bare) is not None
 
 
 def is_code(text):
