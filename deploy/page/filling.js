@@ -4,7 +4,8 @@
 import { language } from './language.js';
 import { pieces, say } from './words.js';
 
-const ATTRIBUTES = ['aria-label', 'title', 'placeholder'];
+/** What stands in an attribute; the style sheet shows `data-none` where a list is empty. */
+const ATTRIBUTES = ['aria-label', 'title', 'placeholder', 'data-none'];
 
 function fill(node) {
   const key = node.dataset.words, placed = [...node.children].filter(child => child.dataset.place);

@@ -21,10 +21,10 @@ export function slots() {
   return alternatives.length ? { ...asked, alternatives } : asked;
 }
 
-/** The slots that are asked for, the wish first, with their hours as far as they are filled in. */
+/** The slots that are asked for, the wish first, which is number 0, with their hours as far as they are filled in. */
 export function choices() {
-  const length = lengthOf() || 15, all = isWished() ? [{ ...wish(), words: 'Wish' }] : [];
-  all.push(...alternatives.map((slot, place) => ({ ...slot, words: 'Alternative ' + (place + 1) })));
+  const length = lengthOf() || 15, all = isWished() ? [{ ...wish(), number: 0 }] : [];
+  all.push(...alternatives.map((slot, place) => ({ ...slot, number: place + 1 })));
   return all.map(slot => {
     const start = minuteOf(slot.start);
     return { ...slot, room: byId('room').value, from: start, to: Math.min(start + length, MIDNIGHT) };

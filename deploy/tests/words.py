@@ -11,42 +11,30 @@ import sys
 
 # what isn't converted yet: its English stands in it still
 LEFT = set('''
-index.html
-figures.html
-
 anyroom.js
 box.js
 cancel.js
-coming.js
-desk.js
 errorlist.js
-figures.js
 filepart.js
-find.js
 form.js
-grid.js
 grouplist.js
 groups.js
 importing.js
 mail.js
 many.js
 mine.js
-month.js
 move.js
 movelist.js
 moving.js
-needs.js
 newslist.js
 news.js
 offers.js
 plan.js
 planlist.js
-print.js
 readcsv.js
 readical.js
 recurs.js
 run.js
-search.js
 sending.js
 series.js
 states.js
@@ -229,7 +217,7 @@ class Page(html.parser.HTMLParser):
     def handle_starttag(self, tag, attributes):
         attributes = dict(attributes)
         node = {'tag': tag, 'key': attributes.get('data-words'), 'place': attributes.get('data-place'), 'text': '', 'whole': '', 'has_places': False}
-        for name in ('aria-label', 'title', 'placeholder', 'alt'):
+        for name in ('aria-label', 'title', 'placeholder', 'data-none', 'alt'):
             key = attributes.get('data-words-' + name)
             if key:
                 self.said.append((key, attributes.get(name, '')))
