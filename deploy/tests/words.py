@@ -14,31 +14,21 @@ LEFT = set('''
 index.html
 figures.html
 
-anyroom.js
-box.js
-cancel.js
 coming.js
 desk.js
-errorlist.js
 figures.js
 filepart.js
 find.js
-form.js
 grid.js
 grouplist.js
 groups.js
 importing.js
-mail.js
 many.js
-mine.js
 month.js
 move.js
 movelist.js
 moving.js
 needs.js
-newslist.js
-news.js
-offers.js
 plan.js
 planlist.js
 print.js
@@ -49,8 +39,6 @@ run.js
 search.js
 sending.js
 series.js
-states.js
-wish.js
 written.js
 '''.split())
 # the plural categories that a template of several forms has in each language; 0 may stand beside them

@@ -2,8 +2,25 @@
 export default Object.freeze({
   // ---- all
 
+  'all.askAgain': 'Redemander',
+  'all.askFor': 'Demander {what}',
+  'all.change': 'Modifier',
+  'all.close': 'Fermer',
+  'all.dayTime': '{day}, {time}',
+  'all.labelled': '{words} : {title}',
+  'all.leaveIt': 'Laisser ainsi',
+  'all.moved': 'Déplacé du {from} au {to}.',
+  'all.no': 'Non',
   'all.notRead': 'Pas encore lu.',
+  'all.outcome': '{state} : {where} (demande {id}).',
+  'all.requests': { one: '{count} demande', other: '{count} demandes' },
+  'all.showDay': 'Afficher la journée',
+  'all.slot': '{date} à {start}',
+  'all.takePlain': 'Prendre « {title} »',
+  'all.titleRule': 'Un titre a de 1 à {most} lettres simples, chiffres et signes.',
   'all.unknownRoom': 'Ce site ne connaît pas la salle.',
+  'all.where': '{room}, {day}, {hours}',
+  'all.withdraw': 'Retirer',
 
   // ---- fault
 
@@ -35,9 +52,41 @@ export default Object.freeze({
 
   // ---- anyroom
 
+  'anyroom.allGone': 'Pas réservé : tout ce qui était libre a été pris entre-temps.',
+  'anyroom.asking': { 0: 'Demande en cours : {where}.', one: 'Demande en cours : {where}, car une autre salle vient d’être prise.', other: 'Demande en cours : {where}, car {count} autres viennent d’être prises.' },
+  'anyroom.noneFree': 'Pas réservé : aucune salle n’est libre aussi longtemps.',
+  'anyroom.notBooked': 'Pas réservé : {cause}.',
+  'anyroom.notSent': 'Pas réservé : {cause}. Rien n’a été envoyé ; vous pouvez réessayer.',
+  'anyroom.perhaps': 'Peut-être réservé ({cause}) : regardez le planning avant de redemander.',
+  'anyroom.perhapsBooked': 'Peut-être réservé : {where} ({cause}). Regardez le planning avant de redemander.',
+  'anyroom.stillWaits': 'La demande {id} n’a pas trouvé de salle et peut encore en obtenir une : retirez-la, sous « Mes demandes », avant de redemander.',
+
   // ---- box
 
+  'box.cancel': 'Annuler cette réservation',
+  'box.request': 'Demande {id}.',
+  'box.seen': 'Affiché ainsi depuis {time}.',
+
   // ---- cancel
+
+  'cancel.cancelNotSent': 'Pas annulé : {cause}. Rien n’a été envoyé ; vous pouvez appuyer de nouveau sur « Annuler ».',
+  'cancel.cancelled': 'Annulé : {title}, par la demande {id} ; pas encore définitif.',
+  'cancel.cancelling': 'Annulation en cours',
+  'cancel.hadRoom': 'Une salle avait été trouvée entre-temps, la réservation est annulée : {title}, par la demande {id} ; pas encore définitif.',
+  'cancel.notCancelled': 'Pas annulé : {cause}.',
+  'cancel.notWithdrawn': 'Pas retirée : {cause}.',
+  'cancel.nothing': 'Il n’y avait pas de réservation à annuler : {title}. Si la demande trouve une salle plus tard, elle sera alors annulée.',
+  'cancel.numbersUsed': 'les numéros de ce serveur sont épuisés. Prévenez l’administrateur',
+  'cancel.perhapsCancelled': 'Peut-être annulé ({cause}) : son état ici le montre.',
+  'cancel.perhapsWithdrawn': 'Peut-être retirée ({cause}) : son état ici le montre.',
+  'cancel.reallyCancel': 'Vraiment annuler ?',
+  'cancel.reallyWithdraw': 'Vraiment retirer ?',
+  'cancel.timeReached': 'le plus grand temps logique est atteint. Prévenez l’administrateur',
+  'cancel.unknownRequest': 'ce site ne connaît pas la demande',
+  'cancel.unknownRoom': 'ce site ne connaît pas la salle',
+  'cancel.withdrawNotSent': 'Pas retirée : {cause}. Rien n’a été envoyé ; vous pouvez appuyer de nouveau sur « Retirer ».',
+  'cancel.withdrawing': 'Retrait en cours',
+  'cancel.withdrawn': 'Retirée : {title}, par la demande {id}. Elle n’obtiendra plus de salle.',
 
   // ---- coming
 
@@ -70,6 +119,12 @@ export default Object.freeze({
 
   // ---- errorlist
 
+  'errorlist.cancel': '{id}, une annulation qui n’a pas trouvé de réservation {target}',
+  'errorlist.cancelOpen': '{id}, une annulation qui n’a pas trouvé de réservation {target} (pas encore définitif)',
+  'errorlist.request': '{id} : {date}, {hours}, {title}',
+  'errorlist.requestOpen': '{id} : {date}, {hours}, {title} (pas encore définitif)',
+  'errorlist.withdrawn': '{id} : {date}, {hours}, {title} (pas encore définitif), retirée par {by}',
+
   // ---- figures
 
   // ---- filepart
@@ -77,6 +132,29 @@ export default Object.freeze({
   // ---- find
 
   // ---- form
+
+  'form.allTaken': 'Pas de salle : {room} est occupée le {slot} et à chaque autre choix.',
+  'form.alternative': 'C’est l’autre choix n° {number} : le {slot} était occupé.',
+  'form.askAllTheSame': 'Demander quand même',
+  'form.choices': 'Au plus 16 autres choix.',
+  'form.day': 'Ce n’est pas un jour de 1990 à 2099.',
+  'form.length': 'La durée est un nombre entier de minutes, de 1 à 1440, et pour chaque choix la réunion se termine à minuit au plus tard.',
+  'form.mayGet': 'La demande peut encore en obtenir une jusqu’à la synchronisation des sites. Si vous prenez une offre à la place, elle est retirée.',
+  'form.notSent': 'Pas réservé : {cause}. Rien n’a été envoyé ; vous pouvez appuyer de nouveau sur « Demander ».',
+  'form.numbersUsed': 'Les numéros de ce serveur sont épuisés : le site a besoin d’un nouveau réplica. Prévenez l’administrateur.',
+  'form.past': '{date}, {hours} : c’est déjà passé. Demander quand même ?',
+  'form.perhaps': 'Peut-être réservé ({cause}) : regardez le planning avant de redemander. Rien n’est renvoyé automatiquement.',
+  'form.plainOnly': 'Seules les lettres simples peuvent être conservées, sans accents ni autres écritures.',
+  'form.reallyAsk': 'Demander quand même ?',
+  'form.refused': 'Refusé : {cause}.',
+  'form.room': 'Ce n’est pas le nom d’une salle.',
+  'form.sending': 'Envoi en cours. Si le navigateur demande un mot de passe, rien n’est envoyé avant qu’il l’ait.',
+  'form.start': 'Le début est une heure de 00:00 à 23:59.',
+  'form.taken': 'Pas de salle : {room} est occupée le {slot}.',
+  'form.timeReached': 'Le plus grand temps logique est atteint : ce site ne prend plus de demandes. Prévenez l’administrateur.',
+  'form.titleHas': 'Celui-ci en a {number}.',
+  'form.unknownRoom': 'Ce site ne connaît pas la salle : l’administrateur doit l’ajouter, ou synchroniser avec un site qui l’a.',
+  'form.unreadable': 'la demande est illisible',
 
   // ---- grid
 
@@ -95,6 +173,10 @@ export default Object.freeze({
 
   // ---- mail
 
+  'mail.given': 'Les suites de la demande {id} sont envoyées à cette adresse par e-mail.',
+  'mail.notTaken': 'L’adresse e-mail n’a pas été prise pour la demande {id} ({cause}) : elle ne reçoit pas d’e-mails.',
+  'mail.wrong': 'Ce n’est pas une adresse e-mail en lettres simples, comme anna@example.org. Laissez le champ vide pour ne pas recevoir d’e-mails.',
+
   // ---- many
 
   // ---- met
@@ -109,6 +191,23 @@ export default Object.freeze({
 
   // ---- mine
 
+  'mine.asked': '{room}, demandé pour le {slot}.',
+  'mine.askedAs': '{room}, demandé pour le {slot}, demande {id}.',
+  'mine.cancel': 'Annuler',
+  'mine.day': '{day} : {requests}',
+  'mine.dayLost': '{day} : {requests}, {without}',
+  'mine.found': 'Une salle a été trouvée entre-temps.',
+  'mine.has': '{date}, {hours}.',
+  'mine.lost': 'Réservé pour le {slot}, puis perdu au profit d’une demande antérieure.',
+  'mine.noReply': 'Aucune réponse n’est venue : regardez le planning. La demande n’est pas renvoyée.',
+  'mine.none': 'Aucune pour l’instant.',
+  'mine.notKnownYet': 'Personne ne sait encore si c’est réservé. L’enlever quand même de la liste ?',
+  'mine.onItsWay': 'En cours d’envoi',
+  'mine.staysBooked': 'La réservation tient : même enlevée de cette liste, elle reste en place. Pour libérer la salle, annulez-la.',
+  'mine.takeOff': 'Enlever de la liste',
+  'mine.takeOffPast': { one: 'Enlever de la liste {count} demande passée', other: 'Enlever de la liste les {count} demandes passées' },
+  'mine.withoutRoom': '{count} sans salle',
+
   // ---- month
 
   // ---- move
@@ -121,9 +220,48 @@ export default Object.freeze({
 
   // ---- news
 
+  'news.cancelled': { one: '{count} réunion a été annulée par un autre site', other: '{count} réunions ont été annulées par un autre site' },
+  'news.cancelledToo': { one: '{count} a été annulée par un autre site', other: '{count} ont été annulées par un autre site' },
+  'news.found': { one: '{count} réunion a finalement trouvé une salle', other: '{count} réunions ont finalement trouvé une salle' },
+  'news.foundToo': { one: '{count} a finalement trouvé une salle', other: '{count} ont finalement trouvé une salle' },
+  'news.lost': { one: '{count} réunion a perdu sa salle', other: '{count} réunions ont perdu leur salle' },
+  'news.moved': { one: '{count} réunion a été déplacée', other: '{count} réunions ont été déplacées' },
+  'news.movedToo': { one: '{count} a été déplacée', other: '{count} ont été déplacées' },
+  'news.notMarked': 'Pas noté comme annoncé : {cause}. Vous pouvez appuyer de nouveau.',
+
   // ---- newslist
 
+  'newslist.all': 'Tous sont prévenus',
+  'newslist.bar': '{changes}.',
+  'newslist.day': '{day} : {changes}',
+  'newslist.found': 'Salle trouvée',
+  'newslist.hadCancelled': 'Réservé pour le {slot}, puis annulé par un autre site (demande {id}).',
+  'newslist.hadLost': 'Réservé pour le {slot}, puis perdu au profit d’une demande antérieure.',
+  'newslist.hasRoom': 'Une salle a été trouvée entre-temps : {slot}.',
+  'newslist.hide': 'Masquer la liste',
+  'newslist.lost': 'Salle perdue',
+  'newslist.mayChange': 'Cela peut encore changer jusqu’à la synchronisation des sites.',
+  'newslist.mayGet': 'La demande peut encore obtenir une salle jusqu’à la synchronisation des sites.',
+  'newslist.more': 'En afficher {number} de plus',
+  'newslist.moved': 'Déplacé',
+  'newslist.noRoom': 'Il n’y a pas de salle.',
+  'newslist.reallyAll': 'Les {number} du {day} sont-ils tous prévenus ? Ils quittent la liste à tous les accueils de ce site.',
+  'newslist.request': '{room}, demande {id}.',
+  'newslist.show': 'Afficher la liste',
+  'newslist.then': '{before} Ensuite : {after}',
+  'newslist.told': 'Je les ai prévenus',
+  'newslist.toldAll': 'J’ai prévenu les {number} de ce jour',
+  'newslist.wanted': 'Demandé pour le {slot}, sans salle.',
+  'newslist.wasCancelled': 'Annulé par un autre site (demande {id}).',
+  'newslist.withdrawn': 'La demande est retirée.',
+
   // ---- offers
+
+  'offers.freeIn': 'Libre dans {room} :',
+  'offers.none': 'Le {day}, aucune salle n’est libre pour cette durée.',
+  'offers.notWithdrawn': 'La demande précédente, {id}, n’est pas retirée et peut encore être réservée elle aussi. Appuyez sur « Retirer » à côté d’elle, sous « Mes demandes ».',
+  'offers.reallyWithdraw': 'La demande {id} ({title}, {room}) n’a pas de salle et peut encore en obtenir une. La retirer, maintenant qu’une autre est réservée ?',
+  'offers.withdraw': 'La retirer',
 
   // ---- office
 
@@ -152,11 +290,38 @@ export default Object.freeze({
 
   // ---- states
 
+  'states.areTaken': 'Tous les horaires demandés sont occupés. La demande peut encore obtenir une salle jusqu’à la synchronisation des sites ; si vous pouvez vous en passer, retirez-la.',
+  'states.booked': 'Réservé',
+  'states.cancelled': 'Annulé',
+  'states.cancelledBy': 'Annulé par la demande {id}.',
+  'states.cancelledByOpen': 'Annulé par la demande {id} ; pas encore définitif.',
+  'states.knownNoMore': 'Ce site ne connaît plus la demande. Prévenez l’administrateur.',
+  'states.mayMove': 'La réservation peut encore être déplacée jusqu’à la synchronisation des sites.',
+  'states.noRoom': 'Pas de salle',
+  'states.notFinal': 'Réservé, pas encore définitif',
+  'states.perhaps': 'Peut-être réservé',
+  'states.unknown': 'Inconnue',
+  'states.wereTaken': 'Tous les horaires demandés étaient occupés.',
+  'states.withdrawn': 'Retirée',
+  'states.withdrawnBy': 'Retirée par la demande {id} : elle n’avait pas de salle et n’en obtiendra plus.',
+
   // ---- texts
 
   'texts.day': '{weekday} {date}',
 
   // ---- wish
+
+  'wish.alternativesOf': 'Vos autres choix sont pour {room}.',
+  'wish.changeRoom': 'Changer de salle',
+  'wish.clash': 'De {start} à {stop}, occupé : {title}.',
+  'wish.goOn': 'Continuer : {room}, {hours}',
+  'wish.held': { 0: 'Votre souhait est {room}, {slot}.', one: 'Votre souhait est {room}, {slot}, avec {count} autre choix.', other: 'Votre souhait est {room}, {slot}, avec {count} autres choix.' },
+  'wish.letters': '{number} sur {most} caractères',
+  'wish.oneRoom': 'Une demande est pour une seule salle. Demander {room}, {slot} à la place ?',
+  'wish.reallyAgain': 'Ce qui est rempli sera effacé. Redemander {title} ?',
+  'wish.takeBack': 'Enlever',
+  'wish.takeBackSlot': 'Enlever le {slot}',
+  'wish.when': '{day}, {hours}',
 
   // ---- written
 });
