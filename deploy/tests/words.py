@@ -21,37 +21,20 @@ coming.js
 desk.js
 errorlist.js
 figures.js
-filepart.js
 find.js
 form.js
 grid.js
-grouplist.js
-groups.js
-importing.js
 mail.js
-many.js
 mine.js
 month.js
-move.js
-movelist.js
-moving.js
 needs.js
 newslist.js
 news.js
 offers.js
-plan.js
-planlist.js
 print.js
-readcsv.js
-readical.js
-recurs.js
-run.js
 search.js
-sending.js
-series.js
 states.js
 wish.js
-written.js
 '''.split())
 # the plural categories that a template of several forms has in each language; 0 may stand beside them
 CATEGORIES = {'en': {'one', 'other'}, 'de': {'one', 'other'}, 'fr': {'one', 'other'}}
@@ -62,6 +45,9 @@ CODE = {
     'texts.js': {'AE', 'Ae', 'Oe', 'Ue', 'SS', 'Th', 'EUR', 'GBP', 'T12:00:00Z', 'NFC', 'NFKD', 'en-CA', ' - '},
     'language.js': {'English', 'Français', 'Deutsch', 'CA', 'HK', 'IN', 'JM', 'PH', 'SG', 'US', 'ZA'},
     'office.js': {'not sent', 'no reply', 'bad request'},
+    'move.js': {'input, select'},
+    'moving.js': {'old first', 'new first'},
+    'readcsv.js': {'start date', 'start time', 'end date', 'end time'},
 }
 # names that another program gives
 FOREIGN = {'zones.js'}
