@@ -17,29 +17,12 @@ figures.html
 coming.js
 desk.js
 figures.js
-filepart.js
 find.js
 grid.js
-grouplist.js
-groups.js
-importing.js
-many.js
 month.js
-move.js
-movelist.js
-moving.js
 needs.js
-plan.js
-planlist.js
 print.js
-readcsv.js
-readical.js
-recurs.js
-run.js
 search.js
-sending.js
-series.js
-written.js
 '''.split())
 # the plural categories that a template of several forms has in each language; 0 may stand beside them
 CATEGORIES = {'en': {'one', 'other'}, 'de': {'one', 'other'}, 'fr': {'one', 'other'}}
@@ -50,6 +33,9 @@ CODE = {
     'texts.js': {'AE', 'Ae', 'Oe', 'Ue', 'SS', 'Th', 'EUR', 'GBP', 'T12:00:00Z', 'NFC', 'NFKD', 'en-CA', ' - '},
     'language.js': {'English', 'Français', 'Deutsch', 'CA', 'HK', 'IN', 'JM', 'PH', 'SG', 'US', 'ZA'},
     'office.js': {'not sent', 'no reply', 'bad request'},
+    'move.js': {'input, select'},
+    'moving.js': {'old first', 'new first'},
+    'readcsv.js': {'start date', 'start time', 'end date', 'end time'},
 }
 # names that another program gives
 FOREIGN = {'zones.js'}

@@ -4,11 +4,13 @@ export default Object.freeze({
 
   'all.askAgain': 'Ask again',
   'all.askFor': 'Ask for {what}',
+  'all.backwards': 'it ends before it begins',
   'all.change': 'Change',
   'all.close': 'Close',
   'all.dayTime': '{day} {time}',
   'all.labelled': '{words}: {title}',
   'all.leaveIt': 'Leave it',
+  'all.midnight': 'A meeting ends at midnight at the latest.',
   'all.moved': 'Moved from {from} to {to}.',
   'all.no': 'No',
   'all.notRead': 'Not read yet.',
@@ -16,6 +18,7 @@ export default Object.freeze({
   'all.requests': { one: '{count} request', other: '{count} requests' },
   'all.showDay': 'Show the day',
   'all.slot': '{date} {start}',
+  'all.stop': 'Stop',
   'all.takePlain': 'Take “{title}”',
   'all.titleRule': 'A title has 1 to {most} plain letters, digits and signs.',
   'all.unknownRoom': 'This office does not know the room.',
@@ -129,6 +132,9 @@ export default Object.freeze({
 
   // ---- filepart
 
+  'filepart.none': 'None',
+  'filepart.unreadable': 'The file can’t be read.',
+
   // ---- find
 
   // ---- form
@@ -160,9 +166,43 @@ export default Object.freeze({
 
   // ---- grouplist
 
+  'grouplist.all': { one: 'Cancel all {count}', other: 'Cancel all {count}' },
+  'grouplist.asking': 'Asking',
+  'grouplist.became': '{parts}.',
+  'grouplist.cancelled': { one: '{count} cancelled', other: '{count} cancelled' },
+  'grouplist.done': '{done} of {of}',
+  'grouplist.gone': { one: '{count} had been cancelled before, or have no room', other: '{count} had been cancelled before, or have no room' },
+  'grouplist.hide': 'Hide them',
+  'grouplist.hint': 'What was asked for together, at this office.',
+  'grouplist.item': '{day} {hours}, {room}, {title}',
+  'grouplist.moved': '{day} {hours}, {room}, {title}, request {id}, {moved}',
+  'grouplist.none': 'None yet.',
+  'grouplist.notCancelled': 'Not cancelled: {title}, {date} ({cause}); the rest was left.',
+  'grouplist.notKept': 'The group’s list at the office is as it was: {cause}.',
+  'grouplist.now': 'now {date} {start}',
+  'grouplist.older': 'This office keeps no groups: its proxy is an older one.',
+  'grouplist.perhapsNot': 'The cancel of {title}, {date} was perhaps not done; the rest was left.',
+  'grouplist.request': '{day} {hours}, {room}, {title}, request {id}',
+  'grouplist.show': 'Show them',
+  'grouplist.span': { one: '{count} request, {from} to {to}.', other: '{count} requests, {from} to {to}.' },
+  'grouplist.spanGone': { one: '{count} request, {from} to {to}; none of them stands from today on.', other: '{count} requests, {from} to {to}; none of them stands from today on.' },
+  'grouplist.stopped': { one: 'Stopped: {count} stand.', other: 'Stopped: {count} stand.' },
+  'grouplist.sure': { one: 'Cancel all {count} request of {title} from today on? It can’t be taken back.', other: 'Cancel all {count} requests of {title} from today on? It can’t be taken back.' },
+  'grouplist.sureNo': 'Leave them',
+  'grouplist.sureYes': 'Cancel all',
+  'grouplist.withdrawn': { one: '{count} without a room withdrawn', other: '{count} without a room withdrawn' },
+
   // ---- groups
 
   // ---- importing
+
+  'importing.before': 'asked for before, as request {id}',
+  'importing.big': 'The file has more than {size} MB.',
+  'importing.many': 'The file has more than {most} bookings: take it in parts.',
+  'importing.noRoom': 'it names no room',
+  'importing.none': 'The file has no booking.',
+  'importing.notHere': '“{place}” is no room of this office',
+  'importing.same': 'it is the same as that of line {line}',
 
   // ---- index
 
@@ -178,6 +218,28 @@ export default Object.freeze({
   'mail.wrong': 'That is no mail address of plain letters, as anna@example.org. Leave it empty for no mails.',
 
   // ---- many
+
+  'many.again': 'Look again',
+  'many.ask': { one: 'Ask for {count}', other: 'Ask for {count}' },
+  'many.asking': 'Asking: {done} of {of}.',
+  'many.away': 'Put the list away',
+  'many.beside': '{words}; {next}',
+  'many.broken': { 0: 'This list was broken off: all were asked for.', one: 'This list was broken off: {count} were not asked for.', other: 'This list was broken off: {count} were not asked for.' },
+  'many.instead': 'Instead of request {id}',
+  'many.insteadWithdrawn': 'Instead of request {id}, which is withdrawn',
+  'many.keep': 'Keep the group again',
+  'many.list': { one: '{count} in the list: {counts}.', other: '{count} in the list: {counts}.' },
+  'many.looking': 'Looking at the sheets: {done} of {of}.',
+  'many.noLength': 'A length is a number of minutes from 1 to 1440.',
+  'many.noStart': 'A series has a start.',
+  'many.noTitle': 'A series has a title.',
+  'many.notKept': 'The group is not kept at the office ({cause}), and can’t be cancelled as one yet.',
+  'many.notWithdrawn': 'The request before, {id}, is not withdrawn, and may still be booked too.',
+  'many.otherWindow': 'Another window of this browser is at work on such a list.',
+  'many.sure': { one: '{count} of the list were not asked for. Put it away all the same?', other: '{count} of the list were not asked for. Put it away all the same?' },
+  'many.sureNo': 'Leave it',
+  'many.sureYes': 'Put it away',
+  'many.unsure': 'Look whether it is there',
 
   // ---- met
 
@@ -212,9 +274,71 @@ export default Object.freeze({
 
   // ---- move
 
+  'move.booking': '{room}, {day}, {hours}, request {id}.',
+  'move.day': 'Day',
+  'move.head': 'Change: {title}',
+  'move.length': 'Length in minutes',
+  'move.longTitle': 'A title has at most {most} letters.',
+  'move.looking': 'Looking at the sheet.',
+  'move.noLength': 'A length is a number of minutes.',
+  'move.noStart': 'A booking has a day and a start.',
+  'move.noTitle': 'A booking has a title.',
+  'move.plain': 'Only plain letters can be kept, as “{title}”.',
+  'move.room': 'Room',
+  'move.send': 'Change it',
+  'move.slot': '{room} {hours}',
+  'move.start': 'Start',
+  'move.title': 'Title',
+  'move.unread': 'The sheet of that day can’t be read: {cause}.',
+
   // ---- movelist
 
+  'movelist.allRight': 'All right',
+  'movelist.booked': 'Booked, not final yet: {title}, {slot}, request {id}.',
+  'movelist.both': 'Both stand: {from} (request {old}) and {to} (request {new}).',
+  'movelist.cancelNew': 'Cancel the new one',
+  'movelist.cancelOld': 'Cancel the old one',
+  'movelist.done': 'It was done: {to} is booked, as request {id}, and the old booking is gone.',
+  'movelist.fellBack': '{to} was taken. It has {slot}, as request {id}, and the old booking is gone.',
+  'movelist.leaveBoth': 'Leave both',
+  'movelist.neither': 'Neither stands: {from} was cancelled or lost its room, and {to} is not booked.',
+  'movelist.neitherWaiting': 'Neither stands: {from} was cancelled or lost its room, and {to} has no room, and may still get one.',
+  'movelist.notBooked': 'Not booked: {cause}.',
+  'movelist.notDone': 'It was not done: {from} stands as it was.',
+  'movelist.notDoneWaiting': 'It was not done: {from} stands as it was. The request for {to} has no room, and may still get one.',
+  'movelist.oldCancelled': 'The old booking is cancelled: {slot}.',
+  'movelist.perhaps': 'Perhaps not done: {cause}. What stands is looked at again.',
+  'movelist.refused': 'Not booked: {refusal}',
+  'movelist.renamed': '{slot}, {title}',
+  'movelist.slot': '{room}, {day} {hours}',
+  'movelist.taken': 'Not booked: {slot} is taken.',
+  'movelist.takenBack': 'The new request {id} is taken back; {slot} stands.',
+  'movelist.unknown': 'What of it stands is not known yet ({cause}). It is looked at again.',
+  'movelist.withdraw': 'Withdraw that request',
+
   // ---- moving
+
+  'moving.asking': 'Asking for the new one.',
+  'moving.back': 'If the new hours are taken by then, the old ones are asked for again.',
+  'moving.backAgain': 'Not changed: {why} It has its old hours again, as request {id}.',
+  'moving.brokenOff': 'The move was broken off ({cause}). What of it stands is shown at the top of the page.',
+  'moving.cancelling': 'Cancelling the old one.',
+  'moving.changed': 'Changed: {title}, {slot}, request {id}, in the place of {old}; not final yet.',
+  'moving.fellBack': 'Not moved: {slot} was taken meanwhile. It has its old hours again, as request {id}.',
+  'moving.gone': 'Not moved: the booking was cancelled or lost its room before. Nothing was asked for.',
+  'moving.inGroup': 'The group that it is of has the old request still: {cause}.',
+  'moving.isTaken': '{hours} is {title}.',
+  'moving.later': 'Until the offices have met the new one is not final: if it loses its room to an earlier request then, the old one is gone all the same.',
+  'moving.lost': 'Lost: {why} Its old hours, {slot}, were taken in the same moment. Ask for others.',
+  'moving.meanwhile': '{slot} was taken meanwhile.',
+  'moving.moved': 'Moved: {title}, {slot}, request {id}, in the place of {old}; not final yet.',
+  'moving.newFirst': 'The new one is asked for first, and the old one is cancelled once it is booked.',
+  'moving.notSent': 'Not moved: {cause}. Nothing was sent; the booking stands as it was.',
+  'moving.oldFirst': 'The new hours meet the old ones, so the old booking is cancelled first: for a moment somebody else may take its hours.',
+  'moving.otherWindow': 'Another window of this browser is moving it.',
+  'moving.refused': 'Not moved: {refusal} The booking stands as it was.',
+  'moving.slot': '{room}, {date} {hours}',
+  'moving.taken': 'Not moved: {slot} was taken meanwhile. The booking stands as it was.',
 
   // ---- needs
 
@@ -270,23 +394,101 @@ export default Object.freeze({
 
   // ---- plan
 
+  'plan.bad': 'Can’t be asked for',
+  'plan.clash': 'Taken',
+  'plan.countBad': { one: '{count} can’t be asked for', other: '{count} can’t be asked for' },
+  'plan.countBooked': { one: '{count} booked, not final yet', other: '{count} booked, not final yet' },
+  'plan.countClash': { one: '{count} taken', other: '{count} taken' },
+  'plan.countFree': { one: '{count} free', other: '{count} free' },
+  'plan.countNone': { one: '{count} no room', other: '{count} no room' },
+  'plan.countPast': { one: '{count} past', other: '{count} past' },
+  'plan.countPerhaps': { one: '{count} perhaps booked', other: '{count} perhaps booked' },
+  'plan.countRefused': { one: '{count} refused', other: '{count} refused' },
+  'plan.countThere': { one: '{count} there already', other: '{count} there already' },
+  'plan.countUnread': { one: '{count} not looked at', other: '{count} not looked at' },
+  'plan.free': 'Free',
+  'plan.isTaken': '{hours} is {title}',
+  'plan.longTitle': 'its title has {length} letters, and may have {most}',
+  'plan.noDay': '“{day}” is no day from 1990 to 2099',
+  'plan.noPlainLetter': 'its title has no plain letter',
+  'plan.noTitle': 'it has no title',
+  'plan.ofList': '{title} of this list',
+  'plan.past': 'Past',
+  'plan.refused': 'Refused',
+  'plan.request': 'request {id}',
+  'plan.there': 'There already',
+  'plan.unknownRoom': 'this office does not know the room {room}',
+  'plan.unread': 'Not looked at',
+
   // ---- planlist
+
+  'planlist.askFor': 'Ask for {date}, {slot}',
+  'planlist.item': '{day} {hours}, {room}, {title}',
+  'planlist.line': 'Line {line}: {what}',
+  'planlist.more': 'Show more of {of}',
+  'planlist.nothing': 'Nothing of that length is free on that day.',
+  'planlist.reason': '{words}.',
+  'planlist.reasons': '{words}; {note}.',
+  'planlist.slot': '{room} {hours}',
+  'planlist.take': 'Take {date}, {slot}',
+  'planlist.whatIsFree': 'What is free?',
+  'planlist.whatIsFreeAt': 'What is free? {day} {hours}',
 
   // ---- print
 
   // ---- readcsv
 
+  'readcsv.cells': 'it has {cells} cells, and the first line {columns}',
+  'readcsv.head': 'The first line has to name the columns: room, day, start, stop or length, title, and id if there is one.',
+  'readcsv.noDay': '“{text}” is no day as 2026-06-30 or 30.6.2026',
+  'readcsv.open': 'its quotes are not closed, and all that follows is within them',
+  'readcsv.otherDay': 'it ends on another day',
+
   // ---- readical
+
+  'readical.cancelled': 'it is cancelled',
+  'readical.cutOff': 'it is cut off',
+  'readical.endless': 'it recurs without an end: those of a year are in the list',
+  'readical.midnight': 'it goes on over midnight, and a booking ends there at the latest',
+  'readical.noDuration': '“{value}” is no duration',
+  'readical.noEnd': 'it has neither an end nor a duration',
+  'readical.noMoment': '“{value}” is no moment',
+  'readical.noStart': 'it has no start',
+  'readical.none': 'The file has no event.',
+  'readical.notMeeting': 'a {kind} is no meeting',
+  'readical.rules': 'it recurs by more than one rule, which can’t be read here',
+  'readical.seconds': 'it does not begin and end at a whole minute',
+  'readical.wholeDays': 'it is of whole days, and a booking has hours',
+  'readical.zone': 'its zone “{name}” is not known',
 
   // ---- recurs
 
+  'recurs.freq': 'its rule has no such FREQ: {freq}',
+  'recurs.often': 'it recurs more than {most} times',
+  'recurs.strange': 'its rule has {part}, which can’t be read here',
+  'recurs.unreadable': 'its rule can’t be read here',
+
   // ---- run
+
+  'run.item': '{title}, {room}, {date} {start}',
+  'run.noReply': 'No reply ({cause}) to the request for {item}, which is not on the sheet now. Look at the sheet before you go on.',
+  'run.notAsked': 'it was not asked for',
+  'run.notSent': '{cause}. Nothing was sent for {item}.',
 
   // ---- search
 
   // ---- sending
 
+  'sending.refused': '{cause}.',
+
   // ---- series
+
+  'series.backwards': 'The last day is before the first.',
+  'series.many': 'That is more than {most} days.',
+  'series.noDay': 'The list has no day.',
+  'series.noSpan': 'A series has a first and a last day, from 1990 to 2099.',
+  'series.noWeekday': 'On which weekdays?',
+  'series.none': 'None of these days is in the series.',
 
   // ---- states
 
@@ -324,4 +526,10 @@ export default Object.freeze({
   'wish.when': '{day}, {hours}',
 
   // ---- written
+
+  'written.midnight': 'a meeting ends at midnight at the latest',
+  'written.noEnd': 'it has neither a stop nor a length',
+  'written.noLength': '“{text}” is no length in minutes',
+  'written.noTime': '“{text}” is no time of day',
+  'written.twoLengths': 'its length and its stop are not the same',
 });
