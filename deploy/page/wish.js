@@ -22,7 +22,7 @@ export function slots() {
   return alternatives.length ? { ...asked, alternatives } : asked;
 }
 
-/** The slots that are asked for, the wish as number 0, with their hours as far as they are filled in. */
+/** The slots that are asked for, the wish first, which is number 0, with their hours as far as they are filled in. */
 export function choices() {
   const length = lengthOf() || 15, all = isWished() ? [{ ...wish(), number: 0 }] : [];
   all.push(...alternatives.map((slot, place) => ({ ...slot, number: place + 1 })));
