@@ -11,35 +11,6 @@ import sys
 
 # what isn't converted yet: its English stands in it still
 LEFT = set('''
-anyroom.js
-box.js
-cancel.js
-errorlist.js
-filepart.js
-form.js
-grouplist.js
-groups.js
-importing.js
-mail.js
-many.js
-mine.js
-move.js
-movelist.js
-moving.js
-newslist.js
-news.js
-offers.js
-plan.js
-planlist.js
-readcsv.js
-readical.js
-recurs.js
-run.js
-sending.js
-series.js
-states.js
-wish.js
-written.js
 '''.split())
 # the plural categories that a template of several forms has in each language; 0 may stand beside them
 CATEGORIES = {'en': {'one', 'other'}, 'de': {'one', 'other'}, 'fr': {'one', 'other'}}
@@ -50,6 +21,9 @@ CODE = {
     'texts.js': {'AE', 'Ae', 'Oe', 'Ue', 'SS', 'Th', 'EUR', 'GBP', 'T12:00:00Z', 'NFC', 'NFKD', 'en-CA', ' - '},
     'language.js': {'English', 'Français', 'Deutsch', 'CA', 'HK', 'IN', 'JM', 'PH', 'SG', 'US', 'ZA'},
     'office.js': {'not sent', 'no reply', 'bad request'},
+    'move.js': {'input, select'},
+    'moving.js': {'old first', 'new first'},
+    'readcsv.js': {'start date', 'start time', 'end date', 'end time'},
 }
 # names that another program gives
 FOREIGN = {'zones.js'}

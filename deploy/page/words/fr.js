@@ -2,8 +2,28 @@
 export default Object.freeze({
   // ---- all
 
+  'all.askAgain': 'Redemander',
+  'all.askFor': 'Demander {what}',
+  'all.backwards': 'la fin n’est pas après le début',
+  'all.change': 'Modifier',
+  'all.close': 'Fermer',
+  'all.dayTime': '{day}, {time}',
+  'all.labelled': '{words} : {title}',
+  'all.leaveIt': 'Laisser ainsi',
+  'all.midnight': 'Une réunion se termine au plus tard à minuit.',
+  'all.moved': 'Déplacé du {from} au {to}.',
+  'all.no': 'Non',
   'all.notRead': 'Pas encore lu.',
+  'all.outcome': '{state} : {where} (demande {id}).',
+  'all.requests': { one: '{count} demande', other: '{count} demandes' },
+  'all.showDay': 'Afficher la journée',
+  'all.slot': '{date} à {start}',
+  'all.stop': 'Arrêter',
+  'all.takePlain': 'Prendre « {title} »',
+  'all.titleRule': 'Un titre a de 1 à {most} lettres simples, chiffres et signes.',
   'all.unknownRoom': 'Ce site ne connaît pas la salle.',
+  'all.where': '{room}, {day}, {hours}',
+  'all.withdraw': 'Retirer',
 
   // ---- fault
 
@@ -35,9 +55,41 @@ export default Object.freeze({
 
   // ---- anyroom
 
+  'anyroom.allGone': 'Pas réservé : tout ce qui était libre a été pris entre-temps.',
+  'anyroom.asking': { 0: 'Demande en cours : {where}.', one: 'Demande en cours : {where}, car une autre salle vient d’être prise.', other: 'Demande en cours : {where}, car {count} autres viennent d’être prises.' },
+  'anyroom.noneFree': 'Pas réservé : aucune salle n’est libre aussi longtemps.',
+  'anyroom.notBooked': 'Pas réservé : {cause}.',
+  'anyroom.notSent': 'Pas réservé : {cause}. Rien n’a été envoyé ; vous pouvez réessayer.',
+  'anyroom.perhaps': 'Peut-être réservé ({cause}) : regardez le planning avant de redemander.',
+  'anyroom.perhapsBooked': 'Peut-être réservé : {where} ({cause}). Regardez le planning avant de redemander.',
+  'anyroom.stillWaits': 'La demande {id} n’a pas trouvé de salle et peut encore en obtenir une : retirez-la, sous « Mes demandes », avant de redemander.',
+
   // ---- box
 
+  'box.cancel': 'Annuler cette réservation',
+  'box.request': 'Demande {id}.',
+  'box.seen': 'Affiché ainsi depuis {time}.',
+
   // ---- cancel
+
+  'cancel.cancelNotSent': 'Pas annulé : {cause}. Rien n’a été envoyé ; vous pouvez appuyer de nouveau sur « Annuler ».',
+  'cancel.cancelled': 'Annulé : {title}, par la demande {id} ; pas encore définitif.',
+  'cancel.cancelling': 'Annulation en cours',
+  'cancel.hadRoom': 'Une salle avait été trouvée entre-temps, la réservation est annulée : {title}, par la demande {id} ; pas encore définitif.',
+  'cancel.notCancelled': 'Pas annulé : {cause}.',
+  'cancel.notWithdrawn': 'Pas retirée : {cause}.',
+  'cancel.nothing': 'Il n’y avait pas de réservation à annuler : {title}. Si la demande trouve une salle plus tard, elle sera alors annulée.',
+  'cancel.numbersUsed': 'les numéros de ce serveur sont épuisés. Prévenez l’administrateur',
+  'cancel.perhapsCancelled': 'Peut-être annulé ({cause}) : son état ici le montre.',
+  'cancel.perhapsWithdrawn': 'Peut-être retirée ({cause}) : son état ici le montre.',
+  'cancel.reallyCancel': 'Vraiment annuler ?',
+  'cancel.reallyWithdraw': 'Vraiment retirer ?',
+  'cancel.timeReached': 'le plus grand temps logique est atteint. Prévenez l’administrateur',
+  'cancel.unknownRequest': 'ce site ne connaît pas la demande',
+  'cancel.unknownRoom': 'ce site ne connaît pas la salle',
+  'cancel.withdrawNotSent': 'Pas retirée : {cause}. Rien n’a été envoyé ; vous pouvez appuyer de nouveau sur « Retirer ».',
+  'cancel.withdrawing': 'Retrait en cours',
+  'cancel.withdrawn': 'Retirée : {title}, par la demande {id}. Elle n’obtiendra plus de salle.',
 
   // ---- coming
 
@@ -88,6 +140,12 @@ export default Object.freeze({
 
   // ---- errorlist
 
+  'errorlist.cancel': '{id}, une annulation qui n’a pas trouvé de réservation {target}',
+  'errorlist.cancelOpen': '{id}, une annulation qui n’a pas trouvé de réservation {target} (pas encore définitif)',
+  'errorlist.request': '{id} : {date}, {hours}, {title}',
+  'errorlist.requestOpen': '{id} : {date}, {hours}, {title} (pas encore définitif)',
+  'errorlist.withdrawn': '{id} : {date}, {hours}, {title} (pas encore définitif), retirée par {by}',
+
   // ---- figures
 
   'figures.all': 'Total',
@@ -123,6 +181,9 @@ export default Object.freeze({
 
   // ---- filepart
 
+  'filepart.none': 'Aucune',
+  'filepart.unreadable': 'Le fichier est illisible.',
+
   // ---- find
 
   'find.ask': 'Indiquez une durée en minutes et deux heures, s’il vous plaît.',
@@ -131,6 +192,29 @@ export default Object.freeze({
   'find.take': '{room} est libre, {day} {hours} : demander',
 
   // ---- form
+
+  'form.allTaken': 'Pas de salle : {room} est occupée le {slot} et à chaque autre choix.',
+  'form.alternative': 'C’est l’autre choix n° {number} : le {slot} était occupé.',
+  'form.askAllTheSame': 'Demander quand même',
+  'form.choices': 'Au plus 16 autres choix.',
+  'form.day': 'Ce n’est pas un jour de 1990 à 2099.',
+  'form.length': 'La durée est un nombre entier de minutes, de 1 à 1440, et pour chaque choix la réunion se termine à minuit au plus tard.',
+  'form.mayGet': 'La demande peut encore en obtenir une jusqu’à la synchronisation des sites. Si vous prenez une offre à la place, elle est retirée.',
+  'form.notSent': 'Pas réservé : {cause}. Rien n’a été envoyé ; vous pouvez appuyer de nouveau sur « Demander ».',
+  'form.numbersUsed': 'Les numéros de ce serveur sont épuisés : le site a besoin d’un nouveau réplica. Prévenez l’administrateur.',
+  'form.past': '{date}, {hours} : c’est déjà passé. Demander quand même ?',
+  'form.perhaps': 'Peut-être réservé ({cause}) : regardez le planning avant de redemander. Rien n’est renvoyé automatiquement.',
+  'form.plainOnly': 'Seules les lettres simples peuvent être conservées, sans accents ni autres écritures.',
+  'form.reallyAsk': 'Demander quand même ?',
+  'form.refused': 'Refusé : {cause}.',
+  'form.room': 'Ce n’est pas le nom d’une salle.',
+  'form.sending': 'Envoi en cours. Si le navigateur demande un mot de passe, rien n’est envoyé avant qu’il l’ait.',
+  'form.start': 'Le début est une heure de 00:00 à 23:59.',
+  'form.taken': 'Pas de salle : {room} est occupée le {slot}.',
+  'form.timeReached': 'Le plus grand temps logique est atteint : ce site ne prend plus de demandes. Prévenez l’administrateur.',
+  'form.titleHas': 'Celui-ci en a {number}.',
+  'form.unknownRoom': 'Ce site ne connaît pas la salle : l’administrateur doit l’ajouter, ou synchroniser avec un site qui l’a.',
+  'form.unreadable': 'la demande est illisible',
 
   // ---- grid
 
@@ -147,9 +231,43 @@ export default Object.freeze({
 
   // ---- grouplist
 
+  'grouplist.all': { one: 'Annuler', other: 'Annuler les {count}' },
+  'grouplist.asking': 'Vérification',
+  'grouplist.became': '{parts}.',
+  'grouplist.cancelled': { one: '{count} annulée', other: '{count} annulées' },
+  'grouplist.done': '{done} sur {of}',
+  'grouplist.gone': { one: '{count} déjà annulée ou sans salle', other: '{count} déjà annulées ou sans salle' },
+  'grouplist.hide': 'Masquer',
+  'grouplist.hint': 'Ce qui a été demandé ensemble sur ce site.',
+  'grouplist.item': '{day}, {hours}, {room}, {title}',
+  'grouplist.moved': '{day}, {hours}, {room}, {title}, demande {id}, {moved}',
+  'grouplist.none': 'Aucun pour l’instant.',
+  'grouplist.notCancelled': 'Pas annulé : {title}, {date} ({cause}) ; les suivantes n’ont pas été touchées.',
+  'grouplist.notKept': 'La liste du groupe sur le site est restée telle quelle : {cause}.',
+  'grouplist.now': 'maintenant {date}, {start}',
+  'grouplist.older': 'Ce site ne conserve pas de groupes : son proxy date d’une version antérieure.',
+  'grouplist.perhapsNot': 'L’annulation de {title}, {date}, n’a peut-être pas été faite ; les suivantes n’ont pas été touchées.',
+  'grouplist.request': '{day}, {hours}, {room}, {title}, demande {id}',
+  'grouplist.show': 'Afficher',
+  'grouplist.span': { one: '{count} demande, du {from} au {to}.', other: '{count} demandes, du {from} au {to}.' },
+  'grouplist.spanGone': { one: '{count} demande, du {from} au {to} ; aucune ne subsiste à partir d’aujourd’hui.', other: '{count} demandes, du {from} au {to} ; aucune ne subsiste à partir d’aujourd’hui.' },
+  'grouplist.stopped': { one: 'Arrêté : {count} subsiste.', other: 'Arrêté : {count} subsistent.' },
+  'grouplist.sure': { one: 'Annuler {count} demande de « {title} » à partir d’aujourd’hui ? C’est irréversible.', other: 'Annuler les {count} demandes de « {title} » à partir d’aujourd’hui ? C’est irréversible.' },
+  'grouplist.sureNo': 'Ne rien annuler',
+  'grouplist.sureYes': 'Tout annuler',
+  'grouplist.withdrawn': { one: '{count} sans salle retirée', other: '{count} sans salle retirées' },
+
   // ---- groups
 
   // ---- importing
+
+  'importing.before': 'déjà demandé, demande {id}',
+  'importing.big': 'Le fichier dépasse {size} Mo.',
+  'importing.many': 'Le fichier contient plus de {most} réservations : partagez-le en plusieurs fichiers.',
+  'importing.noRoom': 'aucune salle indiquée',
+  'importing.none': 'Le fichier ne contient aucune réservation.',
+  'importing.notHere': '« {place} » n’est pas une salle de ce site',
+  'importing.same': 'identique à la ligne {line}',
 
   // ---- index
 
@@ -225,7 +343,33 @@ export default Object.freeze({
 
   // ---- mail
 
+  'mail.given': 'Les suites de la demande {id} sont envoyées à cette adresse par e-mail.',
+  'mail.notTaken': 'L’adresse e-mail n’a pas été prise pour la demande {id} ({cause}) : elle ne reçoit pas d’e-mails.',
+  'mail.wrong': 'Ce n’est pas une adresse e-mail en lettres simples, comme anna@example.org. Laissez le champ vide pour ne pas recevoir d’e-mails.',
+
   // ---- many
+
+  'many.again': 'Vérifier à nouveau',
+  'many.ask': { one: 'Envoyer {count} demande', other: 'Envoyer {count} demandes' },
+  'many.asking': 'Envoi des demandes : {done} sur {of}.',
+  'many.away': 'Fermer la liste',
+  'many.beside': '{words} ; {next}',
+  'many.broken': { 0: 'Cette liste a été interrompue : toutes les demandes avaient été envoyées.', one: 'Cette liste a été interrompue : {count} demande n’a pas été envoyée.', other: 'Cette liste a été interrompue : {count} demandes n’ont pas été envoyées.' },
+  'many.instead': 'À la place de la demande {id}',
+  'many.insteadWithdrawn': 'À la place de la demande {id}, qui est retirée',
+  'many.keep': 'Réenregistrer le groupe',
+  'many.list': { one: '{count} créneau dans la liste : {counts}.', other: '{count} créneaux dans la liste : {counts}.' },
+  'many.looking': 'Consultation des plannings : {done} sur {of}.',
+  'many.noLength': 'La durée est un nombre de minutes de 1 à 1440.',
+  'many.noStart': 'Une série doit avoir une heure de début.',
+  'many.noTitle': 'Une série doit avoir un titre.',
+  'many.notKept': 'Le groupe n’est pas enregistré sur le site ({cause}), et ne peut pas encore être annulé d’un seul coup.',
+  'many.notWithdrawn': 'La demande précédente, {id}, n’est pas retirée, et peut encore être réservée elle aussi.',
+  'many.otherWindow': 'Une autre fenêtre de ce navigateur traite déjà une telle liste.',
+  'many.sure': { one: '{count} demande de la liste n’a pas été envoyée. Fermer la liste quand même ?', other: '{count} demandes de la liste n’ont pas été envoyées. Fermer la liste quand même ?' },
+  'many.sureNo': 'La garder',
+  'many.sureYes': 'La fermer',
+  'many.unsure': 'Vérifier si elle est arrivée',
 
   // ---- met
 
@@ -239,6 +383,23 @@ export default Object.freeze({
 
   // ---- mine
 
+  'mine.asked': '{room}, demandé pour le {slot}.',
+  'mine.askedAs': '{room}, demandé pour le {slot}, demande {id}.',
+  'mine.cancel': 'Annuler',
+  'mine.day': '{day} : {requests}',
+  'mine.dayLost': '{day} : {requests}, {without}',
+  'mine.found': 'Une salle a été trouvée entre-temps.',
+  'mine.has': '{date}, {hours}.',
+  'mine.lost': 'Réservé pour le {slot}, puis perdu au profit d’une demande antérieure.',
+  'mine.noReply': 'Aucune réponse n’est venue : regardez le planning. La demande n’est pas renvoyée.',
+  'mine.none': 'Aucune pour l’instant.',
+  'mine.notKnownYet': 'Personne ne sait encore si c’est réservé. L’enlever quand même de la liste ?',
+  'mine.onItsWay': 'En cours d’envoi',
+  'mine.staysBooked': 'La réservation tient : même enlevée de cette liste, elle reste en place. Pour libérer la salle, annulez-la.',
+  'mine.takeOff': 'Enlever de la liste',
+  'mine.takeOffPast': { one: 'Enlever de la liste {count} demande passée', other: 'Enlever de la liste les {count} demandes passées' },
+  'mine.withoutRoom': '{count} sans salle',
+
   // ---- month
 
   'month.bookings': { 0: 'aucune réservation', one: '{count} réservation', other: '{count} réservations' },
@@ -250,9 +411,71 @@ export default Object.freeze({
 
   // ---- move
 
+  'move.booking': '{room}, {day}, {hours}, demande {id}.',
+  'move.day': 'Jour',
+  'move.head': 'Modifier : {title}',
+  'move.length': 'Durée en minutes',
+  'move.longTitle': 'Un titre a {most} caractères au plus.',
+  'move.looking': 'Consultation du planning.',
+  'move.noLength': 'La durée est un nombre de minutes.',
+  'move.noStart': 'Une réservation doit avoir un jour et une heure de début.',
+  'move.noTitle': 'Une réservation doit avoir un titre.',
+  'move.plain': 'Seules les lettres sans accent sont possibles, par exemple « {title} ».',
+  'move.room': 'Salle',
+  'move.send': 'Modifier',
+  'move.slot': '{room} {hours}',
+  'move.start': 'Début',
+  'move.title': 'Titre',
+  'move.unread': 'Le planning de ce jour ne peut pas être lu : {cause}.',
+
   // ---- movelist
 
+  'movelist.allRight': 'D’accord',
+  'movelist.booked': 'Réservé, pas encore définitif : {title}, {slot}, demande {id}.',
+  'movelist.both': 'Les deux réservations existent : {from} (demande {old}) et {to} (demande {new}).',
+  'movelist.cancelNew': 'Annuler la nouvelle',
+  'movelist.cancelOld': 'Annuler l’ancienne',
+  'movelist.done': 'C’est fait : {to} est réservé, demande {id}, et l’ancienne réservation n’existe plus.',
+  'movelist.fellBack': '{to} était occupé. Ce qui est réservé : {slot}, demande {id} ; l’ancienne réservation n’existe plus.',
+  'movelist.leaveBoth': 'Garder les deux',
+  'movelist.neither': 'Aucune des deux n’existe : {from} a été annulé ou a perdu sa salle, et {to} n’est pas réservé.',
+  'movelist.neitherWaiting': 'Aucune des deux n’existe : {from} a été annulé ou a perdu sa salle, et {to} n’a pas de salle, mais peut encore en obtenir une.',
+  'movelist.notBooked': 'Pas réservé : {cause}.',
+  'movelist.notDone': 'Cela n’a pas été fait : {from} reste tel quel.',
+  'movelist.notDoneWaiting': 'Cela n’a pas été fait : {from} reste tel quel. La demande pour {to} n’a pas de salle, mais peut encore en obtenir une.',
+  'movelist.oldCancelled': 'L’ancienne réservation est annulée : {slot}.',
+  'movelist.perhaps': 'Peut-être pas fait : {cause}. La situation est vérifiée à nouveau.',
+  'movelist.refused': 'Pas réservé. {refusal}',
+  'movelist.renamed': '{slot}, {title}',
+  'movelist.slot': '{room}, {day}, {hours}',
+  'movelist.taken': 'Pas réservé : {slot} est occupé.',
+  'movelist.takenBack': 'La nouvelle demande {id} est reprise ; {slot} reste réservé.',
+  'movelist.unknown': 'On ne sait pas encore ce qu’il en est ({cause}). Une nouvelle vérification va suivre.',
+  'movelist.withdraw': 'Retirer cette demande',
+
   // ---- moving
+
+  'moving.asking': 'La nouvelle réservation est demandée.',
+  'moving.back': 'Si le nouvel horaire est pris d’ici là, l’ancien est redemandé.',
+  'moving.backAgain': 'Pas modifié. {why} La réservation a retrouvé son ancien horaire, demande {id}.',
+  'moving.brokenOff': 'Le changement a été interrompu ({cause}). Ce qu’il en est s’affiche en haut de la page.',
+  'moving.cancelling': 'L’ancienne réservation est annulée.',
+  'moving.changed': 'Modifié : {title}, {slot}, demande {id}, à la place de {old} ; pas encore définitif.',
+  'moving.fellBack': 'Pas déplacé : {slot} a été pris entre-temps. La réservation a retrouvé son ancien horaire, demande {id}.',
+  'moving.gone': 'Pas déplacé : la réservation était déjà annulée ou avait perdu sa salle. Rien n’a été demandé.',
+  'moving.inGroup': 'Son groupe contient encore l’ancienne demande : {cause}.',
+  'moving.isTaken': '{hours} est occupé : {title}.',
+  'moving.later': 'Jusqu’à la synchronisation des sites, la nouvelle réservation n’est pas définitive : si elle perd alors sa salle au profit d’une demande antérieure, l’ancienne est perdue malgré tout.',
+  'moving.lost': 'Perdu. {why} L’ancien horaire, {slot}, a été pris au même instant. Demandez-en un autre.',
+  'moving.meanwhile': '{slot} a été pris entre-temps.',
+  'moving.moved': 'Déplacé : {title}, {slot}, demande {id}, à la place de {old} ; pas encore définitif.',
+  'moving.newFirst': 'La nouvelle réservation est demandée d’abord ; l’ancienne n’est annulée qu’une fois la nouvelle obtenue.',
+  'moving.notSent': 'Pas déplacé : {cause}. Rien n’a été envoyé ; la réservation reste telle quelle.',
+  'moving.oldFirst': 'Le nouvel horaire recoupe l’ancien, l’ancienne réservation est donc annulée d’abord : pendant un instant, quelqu’un d’autre peut prendre son horaire.',
+  'moving.otherWindow': 'Une autre fenêtre de ce navigateur est en train de la déplacer.',
+  'moving.refused': 'Pas déplacé. {refusal} La réservation reste telle quelle.',
+  'moving.slot': '{room}, {date}, {hours}',
+  'moving.taken': 'Pas déplacé : {slot} a été pris entre-temps. La réservation reste telle quelle.',
 
   // ---- needs
 
@@ -260,9 +483,48 @@ export default Object.freeze({
 
   // ---- news
 
+  'news.cancelled': { one: '{count} réunion a été annulée par un autre site', other: '{count} réunions ont été annulées par un autre site' },
+  'news.cancelledToo': { one: '{count} a été annulée par un autre site', other: '{count} ont été annulées par un autre site' },
+  'news.found': { one: '{count} réunion a finalement trouvé une salle', other: '{count} réunions ont finalement trouvé une salle' },
+  'news.foundToo': { one: '{count} a finalement trouvé une salle', other: '{count} ont finalement trouvé une salle' },
+  'news.lost': { one: '{count} réunion a perdu sa salle', other: '{count} réunions ont perdu leur salle' },
+  'news.moved': { one: '{count} réunion a été déplacée', other: '{count} réunions ont été déplacées' },
+  'news.movedToo': { one: '{count} a été déplacée', other: '{count} ont été déplacées' },
+  'news.notMarked': 'Pas noté comme annoncé : {cause}. Vous pouvez appuyer de nouveau.',
+
   // ---- newslist
 
+  'newslist.all': 'Tous sont prévenus',
+  'newslist.bar': '{changes}.',
+  'newslist.day': '{day} : {changes}',
+  'newslist.found': 'Salle trouvée',
+  'newslist.hadCancelled': 'Réservé pour le {slot}, puis annulé par un autre site (demande {id}).',
+  'newslist.hadLost': 'Réservé pour le {slot}, puis perdu au profit d’une demande antérieure.',
+  'newslist.hasRoom': 'Une salle a été trouvée entre-temps : {slot}.',
+  'newslist.hide': 'Masquer la liste',
+  'newslist.lost': 'Salle perdue',
+  'newslist.mayChange': 'Cela peut encore changer jusqu’à la synchronisation des sites.',
+  'newslist.mayGet': 'La demande peut encore obtenir une salle jusqu’à la synchronisation des sites.',
+  'newslist.more': 'En afficher {number} de plus',
+  'newslist.moved': 'Déplacé',
+  'newslist.noRoom': 'Il n’y a pas de salle.',
+  'newslist.reallyAll': 'Les {number} du {day} sont-ils tous prévenus ? Ils quittent la liste à tous les accueils de ce site.',
+  'newslist.request': '{room}, demande {id}.',
+  'newslist.show': 'Afficher la liste',
+  'newslist.then': '{before} Ensuite : {after}',
+  'newslist.told': 'Je les ai prévenus',
+  'newslist.toldAll': 'J’ai prévenu les {number} de ce jour',
+  'newslist.wanted': 'Demandé pour le {slot}, sans salle.',
+  'newslist.wasCancelled': 'Annulé par un autre site (demande {id}).',
+  'newslist.withdrawn': 'La demande est retirée.',
+
   // ---- offers
+
+  'offers.freeIn': 'Libre dans {room} :',
+  'offers.none': 'Le {day}, aucune salle n’est libre pour cette durée.',
+  'offers.notWithdrawn': 'La demande précédente, {id}, n’est pas retirée et peut encore être réservée elle aussi. Appuyez sur « Retirer » à côté d’elle, sous « Mes demandes ».',
+  'offers.reallyWithdraw': 'La demande {id} ({title}, {room}) n’a pas de salle et peut encore en obtenir une. La retirer, maintenant qu’une autre est réservée ?',
+  'offers.withdraw': 'La retirer',
 
   // ---- office
 
@@ -271,7 +533,45 @@ export default Object.freeze({
 
   // ---- plan
 
+  'plan.bad': 'Impossible',
+  'plan.clash': 'Occupé',
+  'plan.countBad': { one: '{count} impossible', other: '{count} impossibles' },
+  'plan.countBooked': { one: '{count} réservé, pas encore définitif', other: '{count} réservés, pas encore définitifs' },
+  'plan.countClash': { one: '{count} occupé', other: '{count} occupés' },
+  'plan.countFree': { one: '{count} libre', other: '{count} libres' },
+  'plan.countNone': { one: '{count} sans salle', other: '{count} sans salle' },
+  'plan.countPast': { one: '{count} passé', other: '{count} passés' },
+  'plan.countPerhaps': { one: '{count} peut-être réservé', other: '{count} peut-être réservés' },
+  'plan.countRefused': { one: '{count} refusé', other: '{count} refusés' },
+  'plan.countThere': { one: '{count} déjà présent', other: '{count} déjà présents' },
+  'plan.countUnread': { one: '{count} non vérifié', other: '{count} non vérifiés' },
+  'plan.free': 'Libre',
+  'plan.isTaken': '{hours} : {title}',
+  'plan.longTitle': 'son titre a {length} caractères, et peut en avoir {most}',
+  'plan.noDay': '« {day} » n’est pas un jour de 1990 à 2099',
+  'plan.noPlainLetter': 'son titre n’a aucune lettre latine',
+  'plan.noTitle': 'pas de titre',
+  'plan.ofList': '{title} de cette liste',
+  'plan.past': 'Passé',
+  'plan.refused': 'Refusé',
+  'plan.request': 'demande {id}',
+  'plan.there': 'Déjà présent',
+  'plan.unknownRoom': 'ce site ne connaît pas la salle {room}',
+  'plan.unread': 'Non vérifié',
+
   // ---- planlist
+
+  'planlist.askFor': 'Demander : {date}, {slot}',
+  'planlist.item': '{day}, {hours}, {room}, {title}',
+  'planlist.line': 'Ligne {line} : {what}',
+  'planlist.more': 'Afficher la suite des {of}',
+  'planlist.nothing': 'Rien de cette durée n’est libre ce jour-là.',
+  'planlist.reason': '{words}.',
+  'planlist.reasons': '{words} ; {note}.',
+  'planlist.slot': '{room} {hours}',
+  'planlist.take': 'Prendre : {date}, {slot}',
+  'planlist.whatIsFree': 'Qu’est-ce qui est libre ?',
+  'planlist.whatIsFreeAt': 'Qu’est-ce qui est libre ? {day}, {hours}',
 
   // ---- print
 
@@ -282,11 +582,42 @@ export default Object.freeze({
 
   // ---- readcsv
 
+  'readcsv.cells': '{cells} cellules, contre {columns} dans la première ligne',
+  'readcsv.head': 'La première ligne doit nommer les colonnes : salle, date, début, fin ou durée, titre, et id s’il y en a un.',
+  'readcsv.noDay': '« {text} » n’est pas un jour comme 2026-06-30 ou 30.6.2026',
+  'readcsv.open': 'ses guillemets ne sont pas fermés, et tout ce qui suit se trouve dedans',
+  'readcsv.otherDay': 'se termine un autre jour',
+
   // ---- readical
+
+  'readical.cancelled': 'est annulé',
+  'readical.cutOff': 'est tronqué',
+  'readical.endless': 'se répète sans fin : la liste en contient une année',
+  'readical.midnight': 'dépasse minuit, où une réservation se termine au plus tard',
+  'readical.noDuration': '« {value} » n’est pas une durée',
+  'readical.noEnd': 'ni fin ni durée',
+  'readical.noMoment': '« {value} » n’est pas un moment',
+  'readical.noStart': 'pas de début',
+  'readical.none': 'Le fichier ne contient aucun événement.',
+  'readical.notMeeting': '{kind} n’est pas une réunion',
+  'readical.rules': 'se répète selon plusieurs règles, ce qui ne peut pas être lu ici',
+  'readical.seconds': 'ne commence pas ou ne finit pas à une minute entière',
+  'readical.wholeDays': 'dure des journées entières, alors qu’une réservation a un horaire',
+  'readical.zone': 'son fuseau horaire « {name} » n’est pas connu',
 
   // ---- recurs
 
+  'recurs.freq': 'sa règle de répétition a un FREQ inconnu : {freq}',
+  'recurs.often': 'se répète plus de {most} fois',
+  'recurs.strange': 'sa règle de répétition contient {part}, qui ne peut pas être lu ici',
+  'recurs.unreadable': 'sa règle de répétition ne peut pas être lue ici',
+
   // ---- run
+
+  'run.item': '{title}, {room}, {date}, {start}',
+  'run.noReply': 'On ne sait pas si la demande pour {item} est arrivée ({cause}) ; elle n’est pas dans le planning pour l’instant. Consultez-le avant de continuer.',
+  'run.notAsked': 'n’a pas été demandé',
+  'run.notSent': 'Rien n’a été envoyé pour {item} : {cause}.',
 
   // ---- search
 
@@ -299,12 +630,33 @@ export default Object.freeze({
 
   // ---- sending
 
+  'sending.refused': '{cause}.',
+
   // ---- series
+
+  'series.backwards': 'Le dernier jour est avant le premier.',
+  'series.many': 'Cela fait plus de {most} jours.',
+  'series.noDay': 'La liste ne contient aucun jour.',
+  'series.noSpan': 'Une série doit avoir un premier et un dernier jour, de 1990 à 2099.',
+  'series.noWeekday': 'Quels jours de la semaine ?',
+  'series.none': 'Aucun de ces jours ne fait partie de la série.',
 
   // ---- states
 
+  'states.areTaken': 'Tous les horaires demandés sont occupés. La demande peut encore obtenir une salle jusqu’à la synchronisation des sites ; si vous pouvez vous en passer, retirez-la.',
   'states.booked': 'Réservé',
+  'states.cancelled': 'Annulé',
+  'states.cancelledBy': 'Annulé par la demande {id}.',
+  'states.cancelledByOpen': 'Annulé par la demande {id} ; pas encore définitif.',
+  'states.knownNoMore': 'Ce site ne connaît plus la demande. Prévenez l’administrateur.',
+  'states.mayMove': 'La réservation peut encore être déplacée jusqu’à la synchronisation des sites.',
+  'states.noRoom': 'Pas de salle',
   'states.notFinal': 'Réservé, pas encore définitif',
+  'states.perhaps': 'Peut-être réservé',
+  'states.unknown': 'Inconnue',
+  'states.wereTaken': 'Tous les horaires demandés étaient occupés.',
+  'states.withdrawn': 'Retirée',
+  'states.withdrawnBy': 'Retirée par la demande {id} : elle n’avait pas de salle et n’en obtiendra plus.',
 
   // ---- texts
 
@@ -312,5 +664,23 @@ export default Object.freeze({
 
   // ---- wish
 
+  'wish.alternativesOf': 'Vos autres choix sont pour {room}.',
+  'wish.changeRoom': 'Changer de salle',
+  'wish.clash': 'De {start} à {stop}, occupé : {title}.',
+  'wish.goOn': 'Continuer : {room}, {hours}',
+  'wish.held': { 0: 'Votre souhait est {room}, {slot}.', one: 'Votre souhait est {room}, {slot}, avec {count} autre choix.', other: 'Votre souhait est {room}, {slot}, avec {count} autres choix.' },
+  'wish.letters': '{number} sur {most} caractères',
+  'wish.oneRoom': 'Une demande est pour une seule salle. Demander {room}, {slot} à la place ?',
+  'wish.reallyAgain': 'Ce qui est rempli sera effacé. Redemander {title} ?',
+  'wish.takeBack': 'Enlever',
+  'wish.takeBackSlot': 'Enlever le {slot}',
+  'wish.when': '{day}, {hours}',
+
   // ---- written
+
+  'written.midnight': 'une réunion se termine au plus tard à minuit',
+  'written.noEnd': 'ni fin ni durée',
+  'written.noLength': '« {text} » n’est pas une durée en minutes',
+  'written.noTime': '« {text} » n’est pas une heure',
+  'written.twoLengths': 'la durée et la fin ne concordent pas',
 });
