@@ -4,6 +4,8 @@ import { byId, dateText, el, buttonOf, readErrors, renew } from './texts.js';
 import { cancelButton, troubleOf } from './cancel.js';
 import { say } from './words.js';
 
+/** What the office says where there are none. */
+const NONE = '(no errors)';
 let shown = { room: '', lines: [] };
 const bookings = new Map();   // by room and id: what may be withdrawn
 
@@ -16,7 +18,7 @@ export function showErrors(read = shown) {
 
 function itemOf(line, withdrawn) {
   const [, mark, id, target, day, hours, title] = /^([CT]) (\d+-\d+) (?:cancel (\d+-\d+)$|(\d{4}-\S+) (\S+) (.*))/.exec(line) || [], isFinal = mark === 'C';
-  if (!id) return el('li', {}, line);
+  if (!id) return el('li', {}, line === NONE ? say('errorlist.none') : line);
   if (target) return el('li', {}, say(isFinal ? 'errorlist.cancel' : 'errorlist.cancelOpen', { id, target }));
   const request = { id, date: dateText(day), hours, title }, withdrawnBy = by => say('errorlist.withdrawn', { ...request, by });
   if (isFinal) return el('li', {}, say('errorlist.request', request));

@@ -14,7 +14,7 @@ function marked(title, wanted) {
 function itemOf({ room, day, row }, wanted) {
   const where = [dayText(day, 'short'), hoursText(row.start, row.stop), labelOf(room)].join(', ');
   return el('li', {}, marked(row.title, wanted), el('span', {}, ' ' + where + ' '),
-    buttonOf(say('search.show'), () => page.goTo({ day, room, view: 'day' }), { 'aria-label': say('search.showOf', { title: row.title, where }) }));
+    buttonOf(say('all.showDay'), () => page.goTo({ day, room, view: 'day' }), { 'aria-label': say('search.showOf', { title: row.title, where }) }));
 }
 
 export function showSearch() {

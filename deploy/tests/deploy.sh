@@ -851,6 +851,7 @@ run_deploy() {
     run_anyroom
     run_report
     run_looking
+    run_languages
     run_many
     run_told
 }

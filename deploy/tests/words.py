@@ -21,6 +21,7 @@ CODE = {
     'texts.js': {'AE', 'Ae', 'Oe', 'Ue', 'SS', 'Th', 'EUR', 'GBP', 'T12:00:00Z', 'NFC', 'NFKD', 'en-CA', ' - '},
     'language.js': {'English', 'Français', 'Deutsch', 'CA', 'HK', 'IN', 'JM', 'PH', 'SG', 'US', 'ZA'},
     'office.js': {'not sent', 'no reply', 'bad request'},
+    'errorlist.js': {'(no errors)'},
     'move.js': {'input, select'},
     'moving.js': {'old first', 'new first'},
     'readcsv.js': {'start date', 'start time', 'end date', 'end time'},

@@ -142,6 +142,7 @@ export default Object.freeze({
 
   'errorlist.cancel': '{id}, eine Stornierung, zu der es keine Buchung {target} gab',
   'errorlist.cancelOpen': '{id}, eine Stornierung, zu der es keine Buchung {target} gab (noch nicht endgültig)',
+  'errorlist.none': '(keine)',
   'errorlist.request': '{id}: {date}, {hours}, {title}',
   'errorlist.requestOpen': '{id}: {date}, {hours}, {title} (noch nicht endgültig)',
   'errorlist.withdrawn': '{id}: {date}, {hours}, {title} (noch nicht endgültig), zurückgezogen durch {by}',
@@ -279,7 +280,6 @@ export default Object.freeze({
   'index.ask': 'Raum anfragen',
   'index.before': 'Zurück',
   'index.calendar': 'Kalender abonnieren',
-  'index.close': 'Schließen',
   'index.coming': 'Demnächst',
   'index.csvFile': 'Eine CSV-Datei oder ein Kalender (.ics)',
   'index.day': 'Tag',
@@ -325,7 +325,6 @@ export default Object.freeze({
   'index.search': 'Suchen',
   'index.searchFor': 'Titel oder ein Teil davon',
   'index.seats': 'Plätze, mindestens',
-  'index.showList': 'Liste anzeigen',
   'index.skip': 'Zum Formular für Anfragen',
   'index.start': 'Beginn',
   'index.startOver': 'Neu beginnen',
@@ -625,7 +624,6 @@ export default Object.freeze({
   'search.found': { 0: 'Nichts gefunden.', one: '{count} Treffer.', other: '{count} Treffer.' },
   'search.foundMore': { one: '{count} Treffer; die ersten {shown} werden gezeigt.', other: '{count} Treffer; die ersten {shown} werden gezeigt.' },
   'search.hint': { 0: 'Durchsucht, was dieser Browser gelesen hat: noch keinen Tagesplan. Ein Monat oder die kommenden Buchungen eines Raums, einmal angezeigt, kommen dazu.', one: 'Durchsucht, was dieser Browser gelesen hat: {count} Tagesplan von {days}, {from} bis {to}. Ein Monat oder die kommenden Buchungen eines Raums, einmal angezeigt, kommen dazu.', other: 'Durchsucht, was dieser Browser gelesen hat: {count} Tagespläne von {days}, {from} bis {to}. Ein Monat oder die kommenden Buchungen eines Raums, einmal angezeigt, kommen dazu.' },
-  'search.show': 'Tag anzeigen',
   'search.showOf': 'Tag anzeigen: {title}, {where}',
 
   // ---- sending

@@ -142,6 +142,7 @@ export default Object.freeze({
 
   'errorlist.cancel': '{id}, a cancel that found no booking of {target}',
   'errorlist.cancelOpen': '{id}, a cancel that found no booking of {target} (not final yet)',
+  'errorlist.none': '(no errors)',
   'errorlist.request': '{id} {date} {hours} {title}',
   'errorlist.requestOpen': '{id} {date} {hours} {title} (not final yet)',
   'errorlist.withdrawn': '{id} {date} {hours} {title} (not final yet), withdrawn by {by}',
@@ -279,7 +280,6 @@ export default Object.freeze({
   'index.ask': 'Ask for a room',
   'index.before': 'Before',
   'index.calendar': 'Calendar to subscribe to',
-  'index.close': 'Close',
   'index.coming': 'Coming',
   'index.csvFile': 'A CSV or a calendar (.ics)',
   'index.day': 'Day',
@@ -325,7 +325,6 @@ export default Object.freeze({
   'index.search': 'Search',
   'index.searchFor': 'Title, or a part of it',
   'index.seats': 'Seats, at least',
-  'index.showList': 'Show the list',
   'index.skip': 'Go to the request form',
   'index.start': 'Start',
   'index.startOver': 'Start over',
@@ -625,7 +624,6 @@ export default Object.freeze({
   'search.found': { 0: 'Nothing found.', one: '{count} found.', other: '{count} found.' },
   'search.foundMore': { one: '{count} found; the first {shown} are shown.', other: '{count} found; the first {shown} are shown.' },
   'search.hint': { 0: 'Looks through what this browser has read: 0 sheets of 0 days. A month or the coming bookings of a room, once shown, add theirs.', one: 'Looks through what this browser has read: {count} sheet of {days}, from {from} to {to}. A month or the coming bookings of a room, once shown, add theirs.', other: 'Looks through what this browser has read: {count} sheets of {days}, from {from} to {to}. A month or the coming bookings of a room, once shown, add theirs.' },
-  'search.show': 'Show the day',
   'search.showOf': 'Show the day: {title}, {where}',
 
   // ---- sending

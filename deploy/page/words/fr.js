@@ -142,6 +142,7 @@ export default Object.freeze({
 
   'errorlist.cancel': '{id}, une annulation qui n’a pas trouvé de réservation {target}',
   'errorlist.cancelOpen': '{id}, une annulation qui n’a pas trouvé de réservation {target} (pas encore définitif)',
+  'errorlist.none': '(aucune)',
   'errorlist.request': '{id} : {date}, {hours}, {title}',
   'errorlist.requestOpen': '{id} : {date}, {hours}, {title} (pas encore définitif)',
   'errorlist.withdrawn': '{id} : {date}, {hours}, {title} (pas encore définitif), retirée par {by}',
@@ -279,7 +280,6 @@ export default Object.freeze({
   'index.ask': 'Demander une salle',
   'index.before': 'Précédent',
   'index.calendar': 'S’abonner au calendrier',
-  'index.close': 'Fermer',
   'index.coming': 'À venir',
   'index.csvFile': 'Un fichier CSV ou un calendrier (.ics)',
   'index.day': 'Jour',
@@ -325,7 +325,6 @@ export default Object.freeze({
   'index.search': 'Rechercher',
   'index.searchFor': 'Titre, ou une partie du titre',
   'index.seats': 'Places, au moins',
-  'index.showList': 'Afficher la liste',
   'index.skip': 'Aller au formulaire de demande',
   'index.start': 'Début',
   'index.startOver': 'Recommencer',
@@ -625,8 +624,7 @@ export default Object.freeze({
   'search.found': { 0: 'Rien trouvé.', one: '{count} résultat.', other: '{count} résultats.' },
   'search.foundMore': { one: '{count} résultat ; les {shown} premiers sont affichés.', other: '{count} résultats ; les {shown} premiers sont affichés.' },
   'search.hint': { 0: 'Cherche dans ce que ce navigateur a lu : encore aucun planning. Un mois ou les réservations à venir d’une salle, une fois affichés, s’y ajoutent.', one: 'Cherche dans ce que ce navigateur a lu : {count} planning sur {days}, du {from} au {to}. Un mois ou les réservations à venir d’une salle, une fois affichés, s’y ajoutent.', other: 'Cherche dans ce que ce navigateur a lu : {count} plannings sur {days}, du {from} au {to}. Un mois ou les réservations à venir d’une salle, une fois affichés, s’y ajoutent.' },
-  'search.show': 'Afficher le jour',
-  'search.showOf': 'Afficher le jour : {title}, {where}',
+  'search.showOf': 'Afficher la journée : {title}, {where}',
 
   // ---- sending
 
