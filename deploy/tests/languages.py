@@ -116,7 +116,8 @@ class Desk:
         over, wide, cut = self.page.run(OVER)
         check(f'{view}, {language}, {self.width}: nothing is wider than the window', over <= 0 and wide == [], (over, wide))
         check(f'{view}, {language}, {self.width}: nothing is cut off', cut == [], cut)
-        self.page.picture_of(f'language-{language}-{self.width}-{view.replace(" ", "-")}')
+        if 'DEPLOY_PICTURES' in os.environ:
+            self.page.picture_of(f'language-{language}-{self.width}-{view.replace(" ", "-")}')
 
     def says(self, key, selector):
         """The sentence of this key comes to this place: that of none, where it has forms."""
