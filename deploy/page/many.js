@@ -7,6 +7,7 @@ import { fillFile, startFile } from './filepart.js';
 import { askGroups, contentOf } from './groups.js';
 import { showGroups } from './grouplist.js';
 import { alone, dropRun, readRun } from './journal.js';
+import { isMailWell } from './mail.js';
 import { countOf, itemOf, look, STATES } from './plan.js';
 import { FEW, forgetPlan, offerFor, showItems } from './planlist.js';
 import { sure } from './question.js';
@@ -91,6 +92,7 @@ async function lookAgainAtAll() {
 }
 
 async function go() {
+  if (!isMailWell('plan-mail')) return;
   run.isGoing = true;
   showPlan();
   byId('plan-words').scrollIntoView({ block: 'center' });

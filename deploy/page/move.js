@@ -1,6 +1,7 @@
 // The form in which a booking is moved, lengthened, shortened or renamed. It says what is in the way and what may be lost before anything is sent.
 import { byId, el, buttonOf, FIRST, hoursText, isDay, isPlain, LAST, minuteOf, plainOf, put, renew, dayText } from './texts.js';
 import { Fault, labelOf, office, page } from './office.js';
+import { isMailWell, mailField } from './mail.js';
 import { askMoves } from './movelist.js';
 import { inTheWay, isSame, lossWords, move } from './moving.js';
 import { freeNear } from './planlist.js';
@@ -29,7 +30,7 @@ function formOf() {
   const words = say('move.booking', { room: labelOf(old.room), day: dayText(old.day), hours: hoursOf(old), id: old.id });
   const form = el('form', { noValidate: true, autocomplete: 'off' }, el('h2', { id: 'move-title' }, say('move.head', { title: old.title })), el('p', { className: 'hint' }, words),
     fieldsOf(), el('p', { id: 'move-loss', className: 'hint' }), el('p', { id: 'move-way', className: 'error', role: 'status' }),
-    el('p', { id: 'move-free', className: 'buttons' }), el('p', { id: 'move-outcome', role: 'status' }),
+    el('p', { id: 'move-free', className: 'buttons' }), mailField('move-mail', say('index.mailHint')), el('p', { id: 'move-outcome', role: 'status' }),
     el('p', { className: 'buttons' }, el('button', { type: 'submit', id: 'move-send', className: 'main' }, say('move.send')),
       buttonOf(say('all.close'), () => byId('move').close(), { id: 'move-close' })));
   form.addEventListener('submit', send);
@@ -92,7 +93,7 @@ function takeSlot({ room, day, start }) {
 async function send(event) {
   event.preventDefault();
   const { wish } = read();
-  if (!wish || isAtWork || result || isSame(old, wish)) return;
+  if (!wish || isAtWork || result || isSame(old, wish) || !isMailWell('move-mail')) return;
   isAtWork = true;
   tell(say('move.looking'), true);
   await lookAround();

@@ -3,6 +3,7 @@
 import { clashesOf, dateText, hoursText, minuteOf, timeOf } from './texts.js';
 import { Fault, ask, askMayBook, askOutcome, askSheet, labelOf } from './office.js';
 import { replaceInGroups } from './groups.js';
+import { handOver, mailWords } from './mail.js';
 import { adoptMine } from './mine.js';
 import { alone, dropMove, keepMove } from './moves.js';
 import { patiently, sendRequest } from './sending.js';
@@ -139,6 +140,7 @@ async function ends(it, isGood, words, outcome = null) {
   const next = outcome ? { ...it.wish, day: outcome.day, start: outcome.start } : null;
   if (next) adoptMine(it.old, next, outcome);
   const lost = next ? await replaceInGroups(it.old, { ...next, id: outcome.id }) : '';
+  const cause = next ? await handOver(outcome, 'move-mail') : null, mailed = cause === null ? '' : mailWords(outcome, cause);
   dropMove(it);
-  return { isGood, words: lost ? words + ' ' + say('moving.inGroup', { cause: lost }) : words };
+  return { isGood, words: [words, lost ? say('moving.inGroup', { cause: lost }) : '', mailed].filter(each => each).join(' ') };
 }

@@ -3,6 +3,7 @@ import { dateText } from './texts.js';
 import { Fault, labelOf } from './office.js';
 import { keepGroup, nameOfGroup } from './groups.js';
 import { dropRun, isDone, isSending, keepRun } from './journal.js';
+import { forgetAddress, handOver } from './mail.js';
 import { mayAsk } from './plan.js';
 import { lookFor, sendRequest } from './sending.js';
 import { say } from './words.js';
@@ -13,6 +14,7 @@ const EVERY = 25;
 export const run = { name: '', title: '', made: '', items: [], done: 0, of: 0, isGoing: false, isStopped: false, trouble: '', keepTrouble: '', show() {} };
 
 export function begin(title, items) {
+  forgetAddress('plan-mail');
   Object.assign(run, { name: nameOfGroup(items), title, made: new Date().toISOString(), items, done: 0, of: 0, isStopped: false, trouble: '', keepTrouble: '' });
 }
 
@@ -47,7 +49,7 @@ async function askOne(item) {
   const place = run.items.indexOf(item);
   isSending(place);
   try {
-    take(item, await sendRequest(slotOf(item), () => run.isStopped));
+    await take(item, await sendRequest(slotOf(item), () => run.isStopped));
   } catch (fault) {
     if (!(fault instanceof Fault)) throw fault;
     run.trouble = say('run.notSent', { cause: fault.message, item: nameOf(item) });
@@ -57,11 +59,13 @@ async function askOne(item) {
 
 const nameOf = ({ title, room, day, start }) => say('run.item', { title, room: labelOf(room), date: dateText(day), start });
 
-function take(item, { kind, outcome, words, isLast }) {
+async function take(item, { kind, outcome, words, isLast }) {
   Object.assign(item, { state: kind, words, isWanted: false });
   if (outcome) Object.assign(item, { id: outcome.id, mark: outcome.mark });
   if (isLast) run.trouble = words;
   if (kind === 'perhaps') run.trouble = say('run.noReply', { cause: words, item: nameOf(item) });
+  const cause = outcome ? await handOver(outcome, 'plan-mail') : null;
+  if (cause) item.words = say('run.noMails', { cause });
 }
 
 /** Takes up a run that was broken off: what was under way is looked for. */
@@ -77,7 +81,7 @@ export async function takeUp(broken) {
 export async function lookAgain(item) {
   try {
     const outcome = await lookFor(slotOf(item));
-    if (outcome) take(item, { kind: outcome.state === 'booked' ? 'booked' : 'none', outcome, words: '' });
+    if (outcome) await take(item, { kind: outcome.state === 'booked' ? 'booked' : 'none', outcome, words: '' });
     else Object.assign(item, { state: 'free', isWanted: true, words: say('run.notAsked') });
   } catch (fault) {
     if (!(fault instanceof Fault)) throw fault;

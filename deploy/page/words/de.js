@@ -343,7 +343,8 @@ export default Object.freeze({
   // ---- mail
 
   'mail.given': 'Was aus Anfrage {id} wird, geht per E-Mail an diese Adresse.',
-  'mail.notTaken': 'Die E-Mail-Adresse wurde für Anfrage {id} nicht angenommen ({cause}): Sie erhält keine E-Mails.',
+  'mail.notTaken': 'Die E-Mail-Adresse wurde für Anfrage {id} nicht angenommen ({cause}): Es gehen keine E-Mails dazu hinaus.',
+  'mail.ofEach': 'Erhält zu jeder Anfrage eine E-Mail über alles, was aus ihr wird. Die Adresse ist hier danach für niemanden mehr lesbar.',
   'mail.wrong': 'Das ist keine E-Mail-Adresse aus einfachen Buchstaben wie anna@example.org. Ohne E-Mails bleibt das Feld leer.',
 
   // ---- many
@@ -614,6 +615,7 @@ export default Object.freeze({
   // ---- run
 
   'run.item': '{title}, {room}, {date}, {start}',
+  'run.noMails': 'die E-Mail-Adresse wurde dafür nicht angenommen ({cause}), es gehen keine E-Mails dazu hinaus',
   'run.noReply': 'Es ist unklar, ob die Anfrage für {item} angekommen ist ({cause}); im Tagesplan steht sie jetzt nicht. Sehen Sie dort nach, bevor Sie weitermachen.',
   'run.notAsked': 'wurde nicht angefragt',
   'run.notSent': 'Für {item} wurde nichts gesendet: {cause}.',

@@ -344,6 +344,7 @@ export default Object.freeze({
 
   'mail.given': 'What becomes of request {id} is mailed to that address.',
   'mail.notTaken': 'The mail address was not taken for request {id} ({cause}): it gets no mails.',
+  'mail.ofEach': 'Gets a mail of all that becomes of each request. Nobody can read it here again.',
   'mail.wrong': 'That is no mail address of plain letters, as anna@example.org. Leave it empty for no mails.',
 
   // ---- many
@@ -614,6 +615,7 @@ export default Object.freeze({
   // ---- run
 
   'run.item': '{title}, {room}, {date} {start}',
+  'run.noMails': 'its mail address was not taken ({cause}), so that it gets no mails',
   'run.noReply': 'No reply ({cause}) to the request for {item}, which is not on the sheet now. Look at the sheet before you go on.',
   'run.notAsked': 'it was not asked for',
   'run.notSent': '{cause}. Nothing was sent for {item}.',

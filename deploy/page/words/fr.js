@@ -344,6 +344,7 @@ export default Object.freeze({
 
   'mail.given': 'Les suites de la demande {id} sont envoyées à cette adresse par e-mail.',
   'mail.notTaken': 'L’adresse e-mail n’a pas été prise pour la demande {id} ({cause}) : elle ne reçoit pas d’e-mails.',
+  'mail.ofEach': 'Reçoit un e-mail à chaque changement de chacune des demandes. Plus personne ne pourra lire l’adresse ici.',
   'mail.wrong': 'Ce n’est pas une adresse e-mail en lettres simples, comme anna@example.org. Laissez le champ vide pour ne pas recevoir d’e-mails.',
 
   // ---- many
@@ -614,6 +615,7 @@ export default Object.freeze({
   // ---- run
 
   'run.item': '{title}, {room}, {date}, {start}',
+  'run.noMails': 'l’adresse e-mail n’a pas été prise ({cause}), il n’y aura pas d’e-mails pour cette demande',
   'run.noReply': 'On ne sait pas si la demande pour {item} est arrivée ({cause}) ; elle n’est pas dans le planning pour l’instant. Consultez-le avant de continuer.',
   'run.notAsked': 'n’a pas été demandé',
   'run.notSent': 'Rien n’a été envoyé pour {item} : {cause}.',
