@@ -152,7 +152,7 @@ export default Object.freeze({
   'many.keep': 'Réenregistrer le groupe',
   'many.list': { one: '{count} créneau dans la liste : {counts}.', other: '{count} créneaux dans la liste : {counts}.' },
   'many.looking': 'Consultation des plannings : {done} sur {of}.',
-  'many.noLength': 'La durée est un nombre de minutes de 1 à 1440.',
+  'many.noLength': 'La durée est un nombre entier de minutes, de 1 à 1440.',
   'many.noStart': 'Une série doit avoir une heure de début.',
   'many.noTitle': 'Une série doit avoir un titre.',
   'many.notKept': 'Le groupe n’est pas enregistré sur le site ({cause}), et ne peut pas encore être annulé d’un seul coup.',
@@ -185,13 +185,13 @@ export default Object.freeze({
   'move.length': 'Durée en minutes',
   'move.longTitle': 'Un titre a {most} caractères au plus.',
   'move.looking': 'Consultation du planning.',
-  'move.noLength': 'La durée est un nombre de minutes.',
+  'move.noLength': 'La durée est un nombre entier de minutes.',
   'move.noStart': 'Une réservation doit avoir un jour et une heure de début.',
   'move.noTitle': 'Une réservation doit avoir un titre.',
   'move.plain': 'Seules les lettres sans accent sont possibles, par exemple « {title} ».',
   'move.room': 'Salle',
   'move.send': 'Modifier',
-  'move.slot': '{room} {hours}',
+  'move.slot': '{room}, {hours}',
   'move.start': 'Début',
   'move.title': 'Titre',
   'move.unread': 'Le planning de ce jour ne peut pas être lu : {cause}.',
@@ -274,7 +274,7 @@ export default Object.freeze({
   'plan.countUnread': { one: '{count} non vérifié', other: '{count} non vérifiés' },
   'plan.free': 'Libre',
   'plan.isTaken': '{hours} : {title}',
-  'plan.longTitle': 'son titre a {length} caractères, et peut en avoir {most}',
+  'plan.longTitle': 'son titre a {length} caractères, et peut en avoir {most} au plus',
   'plan.noDay': '« {day} » n’est pas un jour de 1990 à 2099',
   'plan.noPlainLetter': 'son titre n’a aucune lettre latine',
   'plan.noTitle': 'pas de titre',
@@ -288,15 +288,15 @@ export default Object.freeze({
 
   // ---- planlist
 
-  'planlist.askFor': 'Demander : {date}, {slot}',
+  'planlist.askFor': 'Demander {date}, {slot}',
   'planlist.item': '{day}, {hours}, {room}, {title}',
   'planlist.line': 'Ligne {line} : {what}',
   'planlist.more': 'Afficher la suite des {of}',
   'planlist.nothing': 'Rien de cette durée n’est libre ce jour-là.',
   'planlist.reason': '{words}.',
   'planlist.reasons': '{words} ; {note}.',
-  'planlist.slot': '{room} {hours}',
-  'planlist.take': 'Prendre : {date}, {slot}',
+  'planlist.slot': '{room}, {hours}',
+  'planlist.take': 'Prendre {date}, {slot}',
   'planlist.whatIsFree': 'Qu’est-ce qui est libre ?',
   'planlist.whatIsFreeAt': 'Qu’est-ce qui est libre ? {day}, {hours}',
 
@@ -315,7 +315,7 @@ export default Object.freeze({
   'readical.cancelled': 'est annulé',
   'readical.cutOff': 'est tronqué',
   'readical.endless': 'se répète sans fin : la liste en contient une année',
-  'readical.midnight': 'dépasse minuit, où une réservation se termine au plus tard',
+  'readical.midnight': 'dépasse minuit, alors qu’une réservation se termine au plus tard à minuit',
   'readical.noDuration': '« {value} » n’est pas une durée',
   'readical.noEnd': 'ni fin ni durée',
   'readical.noMoment': '« {value} » n’est pas un moment',
@@ -324,7 +324,7 @@ export default Object.freeze({
   'readical.notMeeting': '{kind} n’est pas une réunion',
   'readical.rules': 'se répète selon plusieurs règles, ce qui ne peut pas être lu ici',
   'readical.seconds': 'ne commence pas ou ne finit pas à une minute entière',
-  'readical.wholeDays': 'dure des journées entières, alors qu’une réservation a un horaire',
+  'readical.wholeDays': 'dure toute la journée, alors qu’une réservation a un horaire',
   'readical.zone': 'son fuseau horaire « {name} » n’est pas connu',
 
   // ---- recurs
@@ -337,7 +337,7 @@ export default Object.freeze({
   // ---- run
 
   'run.item': '{title}, {room}, {date}, {start}',
-  'run.noReply': 'On ne sait pas si la demande pour {item} est arrivée ({cause}) ; elle n’est pas dans le planning pour l’instant. Consultez-le avant de continuer.',
+  'run.noReply': 'On ne sait pas si la demande pour {item} est arrivée ({cause}) ; elle ne figure pas au planning pour l’instant. Consultez-le avant de continuer.',
   'run.notAsked': 'n’a pas été demandé',
   'run.notSent': 'Rien n’a été envoyé pour {item} : {cause}.',
 
