@@ -12,14 +12,14 @@ import { keepFiles } from './offline.js';
 import { fillWords } from './filling.js';
 import { say } from './words.js';
 
-const EVERY = 30000, TICK = 1000;
+const EVERY = 30000, TICK = 1000, SIZES = [1, 0.92, 0.85, 0.78, 0.71, 0.64, 0.57, 0.5];
 /** The sheets of today and tomorrow as they were read last: `days` by day, and when. */
 let news = { days: {}, at: null };
 let timer = 0;
 /** What the office's service said of itself last: status.json. */
 let status = null;
-/** The address that the code shows. */
-let coded = '';
+/** The address that the code shows, and what was made to fit the screen last. */
+let coded = '', fitted = '';
 
 const roomOf = () => location.hash.slice(1);
 const keep = () => 'rooms.door.' + roomOf();
@@ -84,6 +84,18 @@ function show() {
   put({ said: saidNow() });
   showCode(room, day);
   put({ room: document.title, news: !isOld ? time.slice(0, 5) : at ? say('door.oldNews', { time: at }) : say('door.noNews') });
+  fit(room);
+}
+
+/** All but a list of rooms is as large as the screen has room for, however long its sentences are. */
+function fit(room) {
+  const page = document.documentElement, what = [innerWidth, innerHeight, document.body.className, document.body.textContent].join(' ');
+  if (what === fitted) return;
+  fitted = what;
+  for (const size of room ? SIZES : [1]) {
+    document.body.style.setProperty('--fit', size);
+    if (page.scrollHeight <= innerHeight && page.scrollWidth <= innerWidth) return;
+  }
 }
 
 function showState({ present, next, until }, day) {

@@ -4,7 +4,8 @@
 import { language } from './language.js';
 import { pieces, say } from './words.js';
 
-const ATTRIBUTES = ['aria-label', 'title', 'placeholder'];
+/** What stands in an attribute; the style sheet shows `data-none` where a list is empty. */
+const ATTRIBUTES = ['aria-label', 'title', 'placeholder', 'data-none'];
 
 function fill(node) {
   const key = node.dataset.words, placed = [...node.children].filter(child => child.dataset.place);
@@ -13,7 +14,9 @@ function fill(node) {
   if (text) text.data = text.data.replace(/\S(?:.*\S)?/s, () => say(key)); else node.prepend(say(key));
 }
 
+/** Fills all in; and what a page says as long as its modules don't run is said no more. */
 export function fillWords() {
+  document.querySelector('.unstarted')?.remove();
   document.documentElement.lang = language;
   for (const node of document.querySelectorAll('[data-words]')) fill(node);
   for (const name of ATTRIBUTES) {

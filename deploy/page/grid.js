@@ -5,7 +5,7 @@ import { at, labelOf, now, office, sheetOf } from './office.js';
 import { choices, chooseSlot } from './wish.js';
 import { openBox } from './box.js';
 import { stateOf } from './states.js';
-import { say } from './words.js';
+import { capital, say } from './words.js';
 
 const QUARTER = 15, HOUR = 60, FEW = 2;
 const narrow = matchMedia('(max-width: 600px)');
@@ -20,7 +20,7 @@ export function weekShown() {
 
 /** What is shown beside one another: each column is a room on a day. */
 export function columns() {
-  if (at.view === 'week') return weekShown().map(day => ({ room: at.room, day, label: dayText(day), lines: [weekday(day), dateText(day)] }));
+  if (at.view === 'week') return weekShown().map(day => ({ room: at.room, day, label: dayText(day), lines: [capital(weekday(day)), dateText(day)] }));
   const names = narrow.matches && office.rooms.length > FEW ? [at.room] : office.rooms.map(room => room.name);
   return names.map(room => ({ room, day: at.day, label: labelOf(room), lines: [labelOf(room)] }));
 }
@@ -53,17 +53,17 @@ function bookingOf(column, row) {
   const isWished = choices().some(choice => isOf(choice, column) && clashesOf([row], choice.from, choice.to).length > 0);
   const outcome = { ...row, state: 'booked', day: column.day }, [word, kind] = stateOf(outcome), hours = hoursText(row.start, row.stop);
   const cell = cellOf('booking ' + kind + (row.stop - row.start < 30 ? ' short' : '') + (isWished ? ' wished' : ''), column, row.start, row.stop,
-    { 'aria-label': column.label + ', ' + hours + ', ' + row.title + ', ' + word, 'aria-haspopup': 'dialog' },
-    el('span', { className: 'words' }, el('b', {}, row.title), ' ', el('span', {}, hours + (kind === 'sure' ? '' : ', not final'))));
+    { 'aria-label': say('grid.booking', { column: column.label, hours, title: row.title, state: word }), 'aria-haspopup': 'dialog' },
+    el('span', { className: 'words' }, el('b', {}, row.title), ' ', el('span', {}, kind === 'sure' ? hours : say('grid.notFinal', { hours }))));
   cell.addEventListener('click', () => openBox(column.room, column.day, row));
   return cell;
 }
 
 function slotOf(column, start, stop) {
-  const own = choices().find(choice => isOf(choice, column) && choice.from === start);
-  const words = own ? 'your ' + own.words.toLowerCase() : 'free';
+  const own = choices().find(choice => isOf(choice, column) && choice.from === start), number = own && own.number;
+  const key = !own ? 'grid.free' : number ? 'grid.yourAlternative' : 'grid.yourWish';
   const cell = cellOf('slot' + (own ? ' chosen' : ''), column, start, stop,
-    { 'aria-label': column.label + ', ' + timeOf(start) + ' ' + words, 'aria-pressed': Boolean(own) }, timeOf(start));
+    { 'aria-label': say(key, { column: column.label, time: timeOf(start), number }), 'aria-pressed': Boolean(own) }, timeOf(start));
   cell.addEventListener('click', () => { cursor = cell.dataset.key; chooseSlot(column.room, column.day, start); });
   return cell;
 }
@@ -81,7 +81,8 @@ function slotsOf(column, rows, from, to) {
 
 /** A choice with its whole length, and in red what of it is taken: beside the words of the bookings that it overlaps. */
 function drawnOf(choice, rows) {
-  const clashes = clashesOf(rows, choice.from, choice.to), words = choice.words + (clashes.length ? '' : ' ' + hoursText(choice.from, choice.to));
+  const clashes = clashesOf(rows, choice.from, choice.to), { number } = choice, hours = hoursText(choice.from, choice.to);
+  const words = clashes.length ? say(number ? 'grid.alternative' : 'grid.wish', { number }) : say(number ? 'grid.alternativeAt' : 'grid.wishAt', { number, hours });
   return [placed(el('div', { className: 'choice' + (clashes.length ? ' clashing' : '') }, el('span', { className: 'words' }, words)),
     choice.from, choice.to), ...clashes.map(row =>
     placed(el('div', { className: 'clash' }), Math.max(row.start, choice.from), Math.min(row.stop, choice.to)))];
@@ -129,7 +130,7 @@ function placeNow(shown, from, to) {
   for (const line of byId('grid').querySelectorAll('.now')) line.remove();
   if (minute < from || to <= minute) return;
   for (const body of byId('grid').querySelectorAll('.column.today .body')) {
-    body.append(placed(el('div', { className: 'now', title: 'now, ' + day + ' ' + timeOf(minute) }), minute, minute));
+    body.append(placed(el('div', { className: 'now', title: say('grid.now', { day: dateText(day), time: timeOf(minute) }) }), minute, minute));
   }
 }
 

@@ -4,6 +4,7 @@ import { byId } from './texts.js';
 import { Fault, putText } from './office.js';
 import { complain } from './fields.js';
 import { status } from './news.js';
+import { say } from './words.js';
 
 const NAME = '[A-Za-z0-9](?:[A-Za-z0-9-]{0,61}[A-Za-z0-9])?';
 const ADDRESS = new RegExp('^(?=.{3,254}$)[A-Za-z0-9_][A-Za-z0-9.!#$&\'*+/=?^_{}~-]{0,63}@' + NAME + '(?:\\.' + NAME + ')*$');
@@ -19,7 +20,7 @@ export function showMailField() {
 export function isMailWell() {
   const address = filledIn();
   if (!address || ADDRESS.test(address)) return true;
-  complain('mail', 'That is no mail address of plain letters, as anna@example.org. Leave it empty for no mails.');
+  complain('mail', say('mail.wrong'));
   return false;
 }
 
@@ -30,10 +31,10 @@ export async function giveAddress({ id, state }) {
   try {
     await putText('/mail/' + id, state === 'booked' ? address : address + ' none');
     word.className = 'hint';
-    word.textContent = 'What becomes of request ' + id + ' is mailed to that address.';
+    word.textContent = say('mail.given', { id });
   } catch (fault) {
     if (!(fault instanceof Fault)) throw fault;
     word.className = 'error';
-    word.textContent = 'The mail address was not taken for request ' + id + ' (' + fault.message + '): it gets no mails.';
+    word.textContent = say('mail.notTaken', { id, cause: fault.message });
   }
 }

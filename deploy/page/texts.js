@@ -42,7 +42,7 @@ const two = number => String(number).padStart(2, '0');
 export const minuteOf = text => 60 * Number(text.slice(0, 2)) + Number(text.slice(3, 5));
 export const timeOf = minute => two(Math.floor(minute / 60)) + ':' + two(minute % 60);
 export const hoursText = (start, stop) => timeOf(start) + '–' + timeOf(stop);
-const noonOf = day => new Date(day + 'T12:00:00Z');
+export const noonOf = day => new Date(day + 'T12:00:00Z');
 export const weekday = (day, length) => noonOf(day).toLocaleDateString(locale, { weekday: length || 'long', timeZone: 'UTC' });
 
 /** A day as it is written: 1995-12-18 in English, whose readers don't agree on another way, else by the language, as 18.12.1995. */

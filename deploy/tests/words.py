@@ -11,30 +11,6 @@ import sys
 
 # what isn't converted yet: its English stands in it still
 LEFT = set('''
-index.html
-figures.html
-
-anyroom.js
-box.js
-cancel.js
-coming.js
-desk.js
-errorlist.js
-figures.js
-find.js
-form.js
-grid.js
-mail.js
-mine.js
-month.js
-needs.js
-newslist.js
-news.js
-offers.js
-print.js
-search.js
-states.js
-wish.js
 '''.split())
 # the plural categories that a template of several forms has in each language; 0 may stand beside them
 CATEGORIES = {'en': {'one', 'other'}, 'de': {'one', 'other'}, 'fr': {'one', 'other'}}
@@ -204,18 +180,18 @@ def check_module(name, text, english, sections):
 # ---- the HTML
 
 class Page(html.parser.HTMLParser):
-    """What a page says: each element's key and text, and the attributes that are read to people."""
+    """What a page says: each element's key and text, and the attributes that are read to people; and the languages of what it says before its modules run."""
     VOID = {'meta', 'link', 'input', 'br'}
 
     def __init__(self, text):
         super().__init__()
-        self.open, self.said, self.loose = [], [], []
+        self.open, self.said, self.loose, self.before = [], [], [], set()
         self.feed(text)
 
     def handle_starttag(self, tag, attributes):
         attributes = dict(attributes)
-        node = {'tag': tag, 'key': attributes.get('data-words'), 'place': attributes.get('data-place'), 'text': '', 'whole': '', 'has_places': False}
-        for name in ('aria-label', 'title', 'placeholder', 'alt'):
+        node = {'tag': tag, 'language': attributes.get('lang') if tag != 'html' else None, 'key': attributes.get('data-words'), 'place': attributes.get('data-place'), 'text': '', 'whole': '', 'has_places': False}
+        for name in ('aria-label', 'title', 'placeholder', 'data-none', 'alt'):
             key = attributes.get('data-words-' + name)
             if key:
                 self.said.append((key, attributes.get(name, '')))
@@ -229,6 +205,9 @@ class Page(html.parser.HTMLParser):
 
     def handle_data(self, data):
         if not self.open or self.open[-1]['tag'] in ('script', 'style', 'noscript') or any(node['tag'] == 'noscript' for node in self.open):
+            return
+        if self.open[-1]['language']:
+            self.before.add(self.open[-1]['language'])
             return
         node = self.open[-1]
         node['whole'] += data
@@ -245,9 +224,10 @@ class Page(html.parser.HTMLParser):
             self.said.append((node['key'], ' '.join((node['whole'] if node['has_places'] else node['text']).split())))
 
 
-def check_page(name, text, english):
-    """The keys that a page's HTML has; its own words are those of English, and all have a key."""
+def check_page(name, text, english, languages):
+    """The keys that a page's HTML has; its own words are those of English, and all have a key, but for what it says in each language by itself."""
     page = Page(text)
+    check(f'{name}: what is said while no module runs is said in each language', page.before == languages, sorted(page.before))
     for key, words in page.said:
         check(f'{name}: {key} is there', key in english)
         check(f'{name}: {key} has the words of English', words in ('', english.get(key)), words)
@@ -269,9 +249,14 @@ def main():
         if name.endswith(('.js', '.html')):
             with open(os.path.join(folder, name), encoding='utf-8') as it:
                 texts[name] = it.read()
+    for name in sorted(os.listdir(folder)):
+        if name.endswith('.css'):
+            with open(os.path.join(folder, name), encoding='utf-8') as it:
+                loose = re.findall(r'content: *"[^"]*[A-Za-z]{2}[^"]*"', it.read())
+            check(f'{name}: no words of its own', not loose, loose)
     used = set()
     for name, text in texts.items():
-        used |= check_module(name, text, english, sections) if name.endswith('.js') else check_page(name, text, english)
+        used |= check_module(name, text, english, sections) if name.endswith('.js') else check_page(name, text, english, words.keys())
     known = set(re.findall(r"(\w\w): \{ name:", texts['language.js']))
     check('each language that can be chosen has its words', known == words.keys(), sorted(known ^ words.keys()))
     check('no sentence is there for nothing', not english.keys() - used, sorted(english.keys() - used))

@@ -2,15 +2,28 @@
 export default Object.freeze({
   // ---- all
 
+  'all.askAgain': 'Erneut anfragen',
   'all.askFor': '{what} anfragen',
   'all.backwards': 'das Ende liegt nicht nach dem Beginn',
+  'all.change': 'Ändern',
   'all.close': 'Schließen',
+  'all.dayTime': '{day}, {time}',
   'all.labelled': '{words}: {title}',
   'all.leaveIt': 'So lassen',
   'all.midnight': 'Ein Termin endet spätestens um Mitternacht.',
+  'all.moved': 'Verschoben vom {from} auf den {to}.',
+  'all.no': 'Nein',
   'all.notRead': 'Noch nicht gelesen.',
+  'all.outcome': '{state}: {where} (Anfrage {id}).',
+  'all.requests': { one: '{count} Anfrage', other: '{count} Anfragen' },
+  'all.showDay': 'Tag anzeigen',
+  'all.slot': '{date} um {start}',
   'all.stop': 'Anhalten',
+  'all.takePlain': '„{title}“ übernehmen',
+  'all.titleRule': 'Ein Titel hat 1 bis {most} einfache Buchstaben, Ziffern und Zeichen.',
   'all.unknownRoom': 'Dieser Standort kennt den Raum nicht.',
+  'all.where': '{room}, {day}, {hours}',
+  'all.withdraw': 'Zurückziehen',
 
   // ---- fault
 
@@ -42,13 +55,63 @@ export default Object.freeze({
 
   // ---- anyroom
 
+  'anyroom.allGone': 'Nicht gebucht: Was frei war, ist inzwischen belegt.',
+  'anyroom.asking': { 0: 'Angefragt wird {where}.', one: 'Angefragt wird {where}, da ein anderer Raum inzwischen belegt ist.', other: 'Angefragt wird {where}, da {count} andere inzwischen belegt sind.' },
+  'anyroom.noneFree': 'Nicht gebucht: So lange ist kein Raum frei.',
+  'anyroom.notBooked': 'Nicht gebucht: {cause}.',
+  'anyroom.notSent': 'Nicht gebucht: {cause}. Es wurde nichts gesendet; Sie können es noch einmal versuchen.',
+  'anyroom.perhaps': 'Vielleicht gebucht ({cause}): Sehen Sie im Tagesplan nach, bevor Sie erneut anfragen.',
+  'anyroom.perhapsBooked': 'Vielleicht gebucht: {where} ({cause}). Sehen Sie im Tagesplan nach, bevor Sie erneut anfragen.',
+  'anyroom.stillWaits': 'Anfrage {id} hat keinen Raum gefunden und kann noch einen bekommen: Ziehen Sie sie unter „Meine Anfragen“ zurück, bevor Sie erneut anfragen.',
+
   // ---- box
+
+  'box.cancel': 'Diese Buchung stornieren',
+  'box.request': 'Anfrage {id}.',
+  'box.seen': 'So angezeigt seit {time}.',
 
   // ---- cancel
 
+  'cancel.cancelNotSent': 'Nicht storniert: {cause}. Es wurde nichts gesendet; Sie können noch einmal auf „Stornieren“ drücken.',
+  'cancel.cancelled': 'Storniert: {title}, durch Anfrage {id}; noch nicht endgültig.',
+  'cancel.cancelling': 'Wird storniert',
+  'cancel.hadRoom': 'Inzwischen war ein Raum gefunden, die Buchung ist storniert: {title}, durch Anfrage {id}; noch nicht endgültig.',
+  'cancel.notCancelled': 'Nicht storniert: {cause}.',
+  'cancel.notWithdrawn': 'Nicht zurückgezogen: {cause}.',
+  'cancel.nothing': 'Es gab keine Buchung zu stornieren: {title}. Findet die Anfrage später einen Raum, wird sie dann storniert.',
+  'cancel.numbersUsed': 'die Nummern dieses Servers sind aufgebraucht. Bitte melden Sie es dem Betreiber',
+  'cancel.perhapsCancelled': 'Vielleicht storniert ({cause}): Der Stand hier zeigt es.',
+  'cancel.perhapsWithdrawn': 'Vielleicht zurückgezogen ({cause}): Der Stand hier zeigt es.',
+  'cancel.reallyCancel': 'Wirklich stornieren?',
+  'cancel.reallyWithdraw': 'Wirklich zurückziehen?',
+  'cancel.timeReached': 'die größte logische Zeit ist erreicht. Bitte melden Sie es dem Betreiber',
+  'cancel.unknownRequest': 'dieser Standort kennt die Anfrage nicht',
+  'cancel.unknownRoom': 'dieser Standort kennt den Raum nicht',
+  'cancel.withdrawNotSent': 'Nicht zurückgezogen: {cause}. Es wurde nichts gesendet; Sie können noch einmal auf „Zurückziehen“ drücken.',
+  'cancel.withdrawing': 'Wird zurückgezogen',
+  'cancel.withdrawn': 'Zurückgezogen: {title}, durch Anfrage {id}. Dafür gibt es keinen Raum mehr.',
+
   // ---- coming
 
+  'coming.none': 'Keine Buchungen an diesen Tagen.',
+  'coming.title': '{room}, {from} bis {to}',
+  'coming.unread': { one: '{count} Tag ist noch nicht gelesen.', other: '{count} Tage sind noch nicht gelesen.' },
+
   // ---- desk
+
+  'desk.find': 'Freie Räume, {day}',
+  'desk.fresh': 'Stand: {time}; wird jede halbe Minute erneuert.',
+  'desk.lost': 'Keine Verbindung zum Standort seit {time} ({cause}).',
+  'desk.noDay': 'Den Tag {day} gibt es nicht; dies ist der heutige.',
+  'desk.noRoom': 'Den Raum {room} gibt es nicht.',
+  'desk.noSheet': 'Es gibt keinen Tagesplan, der gezeigt werden könnte.',
+  'desk.noView': 'Die Ansicht {view} gibt es nicht.',
+  'desk.old': 'Die Anzeige ist veraltet, Stand: {time}.',
+  'desk.search': 'Suche',
+  'desk.stale': 'Veraltet, Stand: {time}; es wird weiter abgefragt.',
+  'desk.times': 'Alle Zeiten sind Ortszeiten der Räume.',
+  'desk.timesOfZone': 'Alle Zeiten sind Ortszeiten der Räume ({zone}).',
+  'desk.zoneUnknown': 'Dieser Browser kennt die Zeitzone {zone} nicht; welcher Tag heute ist, sagt seine eigene Uhr.',
 
   // ---- door
 
@@ -77,7 +140,44 @@ export default Object.freeze({
 
   // ---- errorlist
 
+  'errorlist.cancel': '{id}, eine Stornierung, zu der es keine Buchung {target} gab',
+  'errorlist.cancelOpen': '{id}, eine Stornierung, zu der es keine Buchung {target} gab (noch nicht endgültig)',
+  'errorlist.request': '{id}: {date}, {hours}, {title}',
+  'errorlist.requestOpen': '{id}: {date}, {hours}, {title} (noch nicht endgültig)',
+  'errorlist.withdrawn': '{id}: {date}, {hours}, {title} (noch nicht endgültig), zurückgezogen durch {by}',
+
   // ---- figures
+
+  'figures.all': 'Gesamt',
+  'figures.allRooms': 'Alle Räume',
+  'figures.booked': 'Gebucht',
+  'figures.bookings': 'Buchungen',
+  'figures.byMonth': 'Nach Monat',
+  'figures.byRoom': 'Nach Raum',
+  'figures.byWeekday': 'Nach Wochentag',
+  'figures.day': 'Tag',
+  'figures.desk': 'Zum Empfang',
+  'figures.drawing': 'Alles als Grafik',
+  'figures.figures': 'Auslastung',
+  'figures.from': 'Von',
+  'figures.hint': 'Als gebucht zählen die Stunden innerhalb der Öffnungszeiten; die übrigen stehen daneben. Was keinen Raum fand und nicht zurückgezogen wurde, zählt für den gewünschten Tag; was ein Abgleich verschoben oder verdrängt hat, wird nur für die eigenen Anfragen dieses Standorts aus den letzten Wochen gezählt.',
+  'figures.hours': '{hours} h',
+  'figures.lost': 'Beim Abgleich verloren',
+  'figures.month': 'Monat',
+  'figures.moved': 'Beim Abgleich verschoben',
+  'figures.noRoom': 'Ohne Raum',
+  'figures.none': 'Es gibt noch keine Auswertung: Der Dienst des Standorts schreibt sie einige Minuten nach seinem Start.',
+  'figures.noneOrLost': 'Es gibt noch keine Auswertung oder keine Verbindung: Der Dienst des Standorts schreibt sie einige Minuten nach seinem Start.',
+  'figures.nothing': 'Für diese Monate liegt nichts vor.',
+  'figures.open': 'Geöffnet',
+  'figures.outside': 'Außerhalb der Öffnungszeiten',
+  'figures.pages': 'Seiten',
+  'figures.part': 'Anteil',
+  'figures.percent': '{percent} %',
+  'figures.room': 'Raum',
+  'figures.table': 'Alles als Tabelle (CSV, in Minuten)',
+  'figures.to': 'Bis',
+  'figures.what': 'Wie die Räume genutzt werden',
 
   // ---- filepart
 
@@ -86,9 +186,48 @@ export default Object.freeze({
 
   // ---- find
 
+  'find.ask': 'Bitte eine Dauer in Minuten und zwei Uhrzeiten angeben.',
+  'find.none': 'Kein Raum hat all das.',
+  'find.notFree': 'Nicht so lange frei.',
+  'find.take': '{room} ist frei, {day} {hours}: anfragen',
+
   // ---- form
 
+  'form.allTaken': 'Kein Raum: {room} ist am {slot} und bei jeder Alternative belegt.',
+  'form.alternative': 'Das ist Alternative {number}: Der {slot} war belegt.',
+  'form.askAllTheSame': 'Trotzdem anfragen',
+  'form.choices': 'Höchstens 16 Alternativen.',
+  'form.day': 'Das ist kein Tag von 1990 bis 2099.',
+  'form.length': 'Die Dauer ist eine ganze Zahl von 1 bis 1440 Minuten, und bei jeder Wahl endet der Termin spätestens um Mitternacht.',
+  'form.mayGet': 'Bis die Standorte sich abgeglichen haben, kann die Anfrage noch einen bekommen. Nehmen Sie stattdessen ein Angebot an, wird sie zurückgezogen.',
+  'form.notSent': 'Nicht gebucht: {cause}. Es wurde nichts gesendet; Sie können noch einmal auf „Anfragen“ drücken.',
+  'form.numbersUsed': 'Die Nummern dieses Servers sind aufgebraucht: Der Standort braucht ein neues Replikat. Bitte melden Sie es dem Betreiber.',
+  'form.past': '{date}, {hours} ist vorbei. Trotzdem anfragen?',
+  'form.perhaps': 'Vielleicht gebucht ({cause}): Sehen Sie im Tagesplan nach, bevor Sie erneut anfragen. Von selbst wird nichts noch einmal gesendet.',
+  'form.plainOnly': 'Es können nur einfache Buchstaben gespeichert werden, keine Umlaute, keine Akzente und keine anderen Schriften.',
+  'form.reallyAsk': 'Trotzdem anfragen?',
+  'form.refused': 'Abgelehnt: {cause}.',
+  'form.room': 'Das ist kein Name eines Raums.',
+  'form.sending': 'Wird gesendet. Fragt der Browser nach einem Passwort, wird vorher nichts gesendet.',
+  'form.start': 'Der Beginn ist eine Uhrzeit von 00:00 bis 23:59.',
+  'form.taken': 'Kein Raum: {room} ist am {slot} belegt.',
+  'form.timeReached': 'Die größte logische Zeit ist erreicht: Dieser Standort nimmt keine Anfragen mehr an. Bitte melden Sie es dem Betreiber.',
+  'form.titleHas': 'Dieser hat {number}.',
+  'form.unknownRoom': 'Dieser Standort kennt den Raum nicht: Der Betreiber muss ihn hinzufügen oder mit einem Standort abgleichen, der ihn hat.',
+  'form.unreadable': 'die Anfrage ist nicht lesbar',
+
   // ---- grid
+
+  'grid.alternative': 'Alternative {number}',
+  'grid.alternativeAt': 'Alternative {number} {hours}',
+  'grid.booking': '{column}, {hours}, {title}, {state}',
+  'grid.free': '{column}, {time} frei',
+  'grid.notFinal': '{hours}, nicht endgültig',
+  'grid.now': 'jetzt, {day} {time}',
+  'grid.wish': 'Wunsch',
+  'grid.wishAt': 'Wunsch {hours}',
+  'grid.yourAlternative': '{column}, {time} Ihre Alternative {number}',
+  'grid.yourWish': '{column}, {time} Ihr Wunsch',
 
   // ---- grouplist
 
@@ -132,12 +271,81 @@ export default Object.freeze({
 
   // ---- index
 
+  'index.after': 'Weiter',
+  'index.allRooms': 'für alle Räume',
+  'index.allRoomsCalendar': 'Kalender abonnieren, für alle Räume',
+  'index.alternatives': 'Alternativen',
+  'index.anyRoom': 'Den ersten freien Raum buchen',
+  'index.ask': 'Raum anfragen',
+  'index.before': 'Zurück',
+  'index.calendar': 'Kalender abonnieren',
+  'index.close': 'Schließen',
+  'index.coming': 'Demnächst',
+  'index.csvFile': 'Eine CSV-Datei oder ein Kalender (.ics)',
+  'index.day': 'Tag',
+  'index.days': 'Tage',
+  'index.doorDisplay': 'Türanzeige',
+  'index.eachFourth': 'jede vierte Woche',
+  'index.eachMonth': 'jeden Monat, etwa am dritten Dienstag',
+  'index.eachSecond': 'jede zweite Woche',
+  'index.eachThird': 'jede dritte Woche',
+  'index.eachWeek': 'jede Woche',
+  'index.equipment': 'Ausstattung',
+  'index.errors': 'Anfragen, die keinen Raum fanden',
+  'index.errorsHint': 'Auch Stornierungen, zu denen es keine Buchung gab, für den oben gewählten Raum. Was noch nicht endgültig ist, kann noch einen Raum bekommen, wenn es nicht zurückgezogen wird.',
+  'index.figures': 'Auslastung',
+  'index.file': 'Aus einer Datei',
+  'index.fileHint': 'Die erste Zeile einer CSV-Datei nennt die Spalten: Raum, Tag, Beginn, Ende oder Dauer, Titel und, falls vorhanden, ID. Die Datei bleibt in diesem Browser: Es wird gezeigt, was aus jeder Zeile würde, und nichts wird angefragt, bevor Sie es auslösen.',
+  'index.fileRoom': 'Raum für Einträge, die keinen von unseren nennen',
+  'index.find': 'Freien Raum finden',
+  'index.from': 'Von',
+  'index.fromDay': 'Von',
+  'index.groups': 'Gruppen',
+  'index.inEach': 'Wie oft',
+  'index.legend': '{sure} bleibt, wenn nicht storniert wird. {open} kann sich noch verschieben, bis die Standorte sich abgeglichen haben. Wählen Sie eine Buchung, um sie zu sehen oder zu stornieren; wählen Sie eine freie Zeit, um sie anzufragen, und weitere desselben Raums als Alternativen. Mit den Pfeiltasten bewegen Sie sich im Plan.',
+  'index.length': 'Dauer in Minuten',
+  'index.list': 'Oder nur an diesen Tagen, etwa 2026-06-30 oder 30.6.2026',
+  'index.look': 'Prüfen, was frei ist',
+  'index.mail': 'E-Mail-Adresse (kann leer bleiben)',
+  'index.mailHint': 'Erhält eine E-Mail zu allem, was aus der Anfrage wird. Die Adresse ist hier danach für niemanden mehr lesbar.',
+  'index.many': 'Mehrere auf einmal',
+  'index.mine': 'Meine Anfragen',
+  'index.mineHint': 'Die aus diesem Browser. Eine Stornierung gibt den Raum für spätere Anfragen frei und lässt sich nicht zurücknehmen.',
+  'index.month': 'Monat',
+  'index.moves': 'Die Änderung einer Buchung wurde unterbrochen',
+  'index.news': 'Was aus den Anfragen dieses Standorts wurde',
+  'index.newsHint': 'Seit dem Abgleich der Standorte. Was mitgeteilt wurde, verschwindet an jedem Empfang dieses Standorts aus der Liste.',
+  'index.none': 'keine',
+  'index.offers': 'Was stattdessen frei ist',
+  'index.on': 'An diesen Wochentagen',
+  'index.printDoor': 'Für die Tür drucken',
+  'index.progress': 'Wie viele erledigt sind',
+  'index.request': 'Anfragen',
+  'index.room': 'Raum',
+  'index.search': 'Suchen',
+  'index.searchFor': 'Titel oder ein Teil davon',
+  'index.seats': 'Plätze, mindestens',
+  'index.showList': 'Liste anzeigen',
+  'index.skip': 'Zum Formular für Anfragen',
+  'index.start': 'Beginn',
+  'index.startOver': 'Neu beginnen',
+  'index.title': 'Titel',
+  'index.to': 'Bis',
+  'index.today': 'Heute',
+  'index.untilDay': 'Bis',
+  'index.view': 'Ansicht',
+  'index.week': 'Woche',
+
   // ---- languagemenu
 
   'languagemenu.automatic': '{name} (auto)',
   'languagemenu.language': 'Sprache',
 
   // ---- mail
+
+  'mail.given': 'Was aus Anfrage {id} wird, geht per E-Mail an diese Adresse.',
+  'mail.notTaken': 'Die E-Mail-Adresse wurde für Anfrage {id} nicht angenommen ({cause}): Sie erhält keine E-Mails.',
+  'mail.wrong': 'Das ist keine E-Mail-Adresse aus einfachen Buchstaben wie anna@example.org. Ohne E-Mails bleibt das Feld leer.',
 
   // ---- many
 
@@ -175,7 +383,31 @@ export default Object.freeze({
 
   // ---- mine
 
+  'mine.asked': '{room}, angefragt für den {slot}.',
+  'mine.askedAs': '{room}, angefragt für den {slot}, Anfrage {id}.',
+  'mine.cancel': 'Stornieren',
+  'mine.day': '{day}: {requests}',
+  'mine.dayLost': '{day}: {requests}, {without}',
+  'mine.found': 'Inzwischen wurde ein Raum gefunden.',
+  'mine.has': '{date}, {hours}.',
+  'mine.lost': 'War gebucht für den {slot}; das ging an eine frühere Anfrage verloren.',
+  'mine.noReply': 'Es kam keine Antwort: Sehen Sie im Tagesplan nach. Die Anfrage wird nicht noch einmal gesendet.',
+  'mine.none': 'Noch keine.',
+  'mine.notKnownYet': 'Noch weiß niemand, ob das gebucht ist. Trotzdem von der Liste nehmen?',
+  'mine.onItsWay': 'Unterwegs',
+  'mine.staysBooked': 'Die Buchung besteht: Auch wenn sie nicht mehr auf dieser Liste steht, bleibt der Raum gebucht. Um ihn freizugeben, stornieren Sie die Buchung.',
+  'mine.takeOff': 'Von der Liste nehmen',
+  'mine.takeOffPast': { one: '{count} Anfrage vergangener Tage von der Liste nehmen', other: 'Alle {count} vergangener Tage von der Liste nehmen' },
+  'mine.withoutRoom': '{count} ohne Raum',
+
   // ---- month
+
+  'month.bookings': { 0: 'keine Buchungen', one: '{count} Buchung', other: '{count} Buchungen' },
+  'month.hint': 'Wählen Sie einen Tag, um ihn zu sehen. Die Pfeiltasten führen von Tag zu Tag.',
+  'month.more': { one: 'und {count} weitere', other: 'und {count} weitere' },
+  'month.notKnown': 'der Raum ist hier nicht bekannt',
+  'month.notRead': 'noch nicht gelesen',
+  'month.title': '{room}, {month}',
 
   // ---- move
 
@@ -247,11 +479,52 @@ export default Object.freeze({
 
   // ---- needs
 
+  'needs.seats': { one: '{count} Platz', other: '{count} Plätze' },
+
   // ---- news
+
+  'news.cancelled': { one: '{count} Termin wurde von einem anderen Standort storniert', other: '{count} Termine wurden von einem anderen Standort storniert' },
+  'news.cancelledToo': { one: '{count} wurde von einem anderen Standort storniert', other: '{count} wurden von einem anderen Standort storniert' },
+  'news.found': { one: '{count} Termin hat doch noch einen Raum gefunden', other: '{count} Termine haben doch noch einen Raum gefunden' },
+  'news.foundToo': { one: '{count} hat doch noch einen Raum gefunden', other: '{count} haben doch noch einen Raum gefunden' },
+  'news.lost': { one: '{count} Termin hat seinen Raum verloren', other: '{count} Termine haben ihren Raum verloren' },
+  'news.moved': { one: '{count} Termin wurde verschoben', other: '{count} Termine wurden verschoben' },
+  'news.movedToo': { one: '{count} wurde verschoben', other: '{count} wurden verschoben' },
+  'news.notMarked': 'Nicht als mitgeteilt vermerkt: {cause}. Sie können noch einmal drücken.',
 
   // ---- newslist
 
+  'newslist.all': 'Alle wissen Bescheid',
+  'newslist.bar': '{changes}.',
+  'newslist.day': '{day}: {changes}',
+  'newslist.found': 'Raum gefunden',
+  'newslist.hadCancelled': 'War gebucht für {slot} und wurde von einem anderen Standort storniert (Anfrage {id}).',
+  'newslist.hadLost': 'War gebucht für {slot}; das ging an eine frühere Anfrage verloren.',
+  'newslist.hasRoom': 'Hat inzwischen einen Raum: {slot}.',
+  'newslist.hide': 'Liste ausblenden',
+  'newslist.lost': 'Raum verloren',
+  'newslist.mayChange': 'Das kann sich noch ändern, bis die Standorte sich abgeglichen haben.',
+  'newslist.mayGet': 'Bis die Standorte sich abgeglichen haben, kann die Anfrage noch einen Raum bekommen.',
+  'newslist.more': '{number} weitere anzeigen',
+  'newslist.moved': 'Verschoben',
+  'newslist.noRoom': 'Dafür gibt es keinen Raum.',
+  'newslist.reallyAll': 'Wissen alle {number} vom {day} Bescheid? Die Einträge verschwinden an jedem Empfang dieses Standorts von der Liste.',
+  'newslist.request': '{room}, Anfrage {id}.',
+  'newslist.show': 'Liste anzeigen',
+  'newslist.then': '{before} Danach: {after}',
+  'newslist.told': 'Ich habe Bescheid gesagt',
+  'newslist.toldAll': 'Ich habe allen {number} dieses Tages Bescheid gesagt',
+  'newslist.wanted': 'War angefragt für {slot} und hat keinen Raum.',
+  'newslist.wasCancelled': 'Wurde von einem anderen Standort storniert (Anfrage {id}).',
+  'newslist.withdrawn': 'Die Anfrage ist zurückgezogen.',
+
   // ---- offers
+
+  'offers.freeIn': 'Frei in {room}:',
+  'offers.none': 'Am {day}, ist in keinem Raum etwas von dieser Dauer frei.',
+  'offers.notWithdrawn': 'Die vorige Anfrage, {id}, ist nicht zurückgezogen und kann auch noch gebucht werden. Drücken Sie bei ihr, unter „Meine Anfragen“, auf „Zurückziehen“.',
+  'offers.reallyWithdraw': 'Anfrage {id} ({title}, {room}) hat keinen Raum und kann noch einen bekommen. Soll sie zurückgezogen werden, da jetzt eine andere gebucht ist?',
+  'offers.withdraw': 'Zurückziehen',
 
   // ---- office
 
@@ -302,6 +575,11 @@ export default Object.freeze({
 
   // ---- print
 
+  'print.asOf': '{office}, Stand: {day} {time}',
+  'print.code': 'Die Seite dieses Tages',
+  'print.none': 'Keine Buchungen.',
+  'print.notRead': 'Es wurde kein Tagesplan gelesen.',
+
   // ---- readcsv
 
   'readcsv.cells': 'hat {cells} Zellen, die erste Zeile aber {columns}',
@@ -343,6 +621,13 @@ export default Object.freeze({
 
   // ---- search
 
+  'search.days': { one: '{count} Tag', other: '{count} Tagen' },
+  'search.found': { 0: 'Nichts gefunden.', one: '{count} Treffer.', other: '{count} Treffer.' },
+  'search.foundMore': { one: '{count} Treffer; die ersten {shown} werden gezeigt.', other: '{count} Treffer; die ersten {shown} werden gezeigt.' },
+  'search.hint': { 0: 'Durchsucht, was dieser Browser gelesen hat: noch keinen Tagesplan. Ein Monat oder die kommenden Buchungen eines Raums, einmal angezeigt, kommen dazu.', one: 'Durchsucht, was dieser Browser gelesen hat: {count} Tagesplan von {days}, {from} bis {to}. Ein Monat oder die kommenden Buchungen eines Raums, einmal angezeigt, kommen dazu.', other: 'Durchsucht, was dieser Browser gelesen hat: {count} Tagespläne von {days}, {from} bis {to}. Ein Monat oder die kommenden Buchungen eines Raums, einmal angezeigt, kommen dazu.' },
+  'search.show': 'Tag anzeigen',
+  'search.showOf': 'Tag anzeigen: {title}, {where}',
+
   // ---- sending
 
   'sending.refused': '{cause}.',
@@ -358,16 +643,38 @@ export default Object.freeze({
 
   // ---- states
 
+  'states.areTaken': 'Alle gewünschten Zeiten sind belegt. Bis die Standorte sich abgeglichen haben, kann die Anfrage noch einen Raum bekommen; wird er nicht mehr gebraucht, ziehen Sie sie zurück.',
+  'states.booked': 'Gebucht',
   'states.cancelled': 'Storniert',
+  'states.cancelledBy': 'Storniert durch Anfrage {id}.',
+  'states.cancelledByOpen': 'Storniert durch Anfrage {id}; noch nicht endgültig.',
+  'states.knownNoMore': 'Dieser Standort kennt die Anfrage nicht mehr. Bitte melden Sie es dem Betreiber.',
+  'states.mayMove': 'Bis die Standorte sich abgeglichen haben, kann sich die Buchung noch verschieben.',
   'states.noRoom': 'Kein Raum',
   'states.notFinal': 'Gebucht, noch nicht endgültig',
   'states.perhaps': 'Vielleicht gebucht',
+  'states.unknown': 'Unbekannt',
+  'states.wereTaken': 'Alle gewünschten Zeiten waren belegt.',
+  'states.withdrawn': 'Zurückgezogen',
+  'states.withdrawnBy': 'Zurückgezogen durch Anfrage {id}: Dafür gab es keinen Raum, und es gibt auch keinen mehr.',
 
   // ---- texts
 
   'texts.day': '{weekday}, {date}',
 
   // ---- wish
+
+  'wish.alternativesOf': 'Ihre Alternativen sind für {room}.',
+  'wish.changeRoom': 'Raum wechseln',
+  'wish.clash': '{start} bis {stop} ist belegt: {title}.',
+  'wish.goOn': 'Weiter: {room}, {hours}',
+  'wish.held': { 0: 'Ihr Wunsch ist {room}, {slot}.', one: 'Ihr Wunsch ist {room}, {slot}, mit {count} Alternative.', other: 'Ihr Wunsch ist {room}, {slot}, mit {count} Alternativen.' },
+  'wish.letters': '{number} von {most} Zeichen',
+  'wish.oneRoom': 'Eine Anfrage gilt für einen Raum. Stattdessen {room}, {slot} anfragen?',
+  'wish.reallyAgain': 'Was eingetragen ist, geht verloren. {title} erneut anfragen?',
+  'wish.takeBack': 'Entfernen',
+  'wish.takeBackSlot': '{slot} entfernen',
+  'wish.when': '{day}, {hours}',
 
   // ---- written
 

@@ -2,15 +2,28 @@
 export default Object.freeze({
   // ---- all
 
+  'all.askAgain': 'Ask again',
   'all.askFor': 'Ask for {what}',
   'all.backwards': 'it ends before it begins',
+  'all.change': 'Change',
   'all.close': 'Close',
+  'all.dayTime': '{day} {time}',
   'all.labelled': '{words}: {title}',
   'all.leaveIt': 'Leave it',
   'all.midnight': 'A meeting ends at midnight at the latest.',
+  'all.moved': 'Moved from {from} to {to}.',
+  'all.no': 'No',
   'all.notRead': 'Not read yet.',
+  'all.outcome': '{state}: {where} (request {id}).',
+  'all.requests': { one: '{count} request', other: '{count} requests' },
+  'all.showDay': 'Show the day',
+  'all.slot': '{date} {start}',
   'all.stop': 'Stop',
+  'all.takePlain': 'Take “{title}”',
+  'all.titleRule': 'A title has 1 to {most} plain letters, digits and signs.',
   'all.unknownRoom': 'This office does not know the room.',
+  'all.where': '{room}, {day}, {hours}',
+  'all.withdraw': 'Withdraw',
 
   // ---- fault
 
@@ -42,13 +55,63 @@ export default Object.freeze({
 
   // ---- anyroom
 
+  'anyroom.allGone': 'Not booked: all that was free had gone by then.',
+  'anyroom.asking': { 0: 'Asking for {where}.', one: 'Asking for {where}, since another had gone.', other: 'Asking for {where}, since {count} others had gone.' },
+  'anyroom.noneFree': 'Not booked: no room is free for that long.',
+  'anyroom.notBooked': 'Not booked: {cause}.',
+  'anyroom.notSent': 'Not booked: {cause}. Nothing was sent; you may try again.',
+  'anyroom.perhaps': 'Perhaps booked ({cause}): look at the sheet before you ask again.',
+  'anyroom.perhapsBooked': 'Perhaps booked: {where} ({cause}). Look at the sheet before you ask again.',
+  'anyroom.stillWaits': 'Request {id} found no room, and may still get one: withdraw it, under My requests, before you ask again.',
+
   // ---- box
+
+  'box.cancel': 'Cancel this booking',
+  'box.request': 'Request {id}.',
+  'box.seen': 'Seen so since {time}.',
 
   // ---- cancel
 
+  'cancel.cancelNotSent': 'Not cancelled: {cause}. Nothing was sent; you may press Cancel again.',
+  'cancel.cancelled': 'Cancelled: {title}, by request {id}; not final yet.',
+  'cancel.cancelling': 'Cancelling',
+  'cancel.hadRoom': 'It had found room by now, and is cancelled: {title}, by request {id}; not final yet.',
+  'cancel.notCancelled': 'Not cancelled: {cause}.',
+  'cancel.notWithdrawn': 'Not withdrawn: {cause}.',
+  'cancel.nothing': 'There was no booking to cancel: {title}. If the request finds room later, it is cancelled then.',
+  'cancel.numbersUsed': 'this server’s numbers are used up. Tell the operator',
+  'cancel.perhapsCancelled': 'Perhaps cancelled ({cause}): its state here shows it.',
+  'cancel.perhapsWithdrawn': 'Perhaps withdrawn ({cause}): its state here shows it.',
+  'cancel.reallyCancel': 'Really cancel?',
+  'cancel.reallyWithdraw': 'Really withdraw?',
+  'cancel.timeReached': 'the greatest logical time is reached. Tell the operator',
+  'cancel.unknownRequest': 'this office does not know the request',
+  'cancel.unknownRoom': 'this office does not know the room',
+  'cancel.withdrawNotSent': 'Not withdrawn: {cause}. Nothing was sent; you may press Withdraw again.',
+  'cancel.withdrawing': 'Withdrawing',
+  'cancel.withdrawn': 'Withdrawn: {title}, by request {id}. It gets no room any more.',
+
   // ---- coming
 
+  'coming.none': 'No bookings in these days.',
+  'coming.title': '{room}, {from} to {to}',
+  'coming.unread': { one: '{count} day is not read yet.', other: '{count} days are not read yet.' },
+
   // ---- desk
+
+  'desk.find': 'Free rooms, {day}',
+  'desk.fresh': 'as of {time}; asks again every half minute.',
+  'desk.lost': 'No connection to the office since {time} ({cause}).',
+  'desk.noDay': 'There is no day {day}; this is today.',
+  'desk.noRoom': 'There is no room {room}.',
+  'desk.noSheet': 'There is no sheet to show.',
+  'desk.noView': 'There is no view {view}.',
+  'desk.old': 'What is shown is old, of {time}.',
+  'desk.search': 'Search',
+  'desk.stale': 'Old: as of {time}; asking on.',
+  'desk.times': 'Times are the wall clock of the rooms.',
+  'desk.timesOfZone': 'Times are the wall clock of the rooms ({zone}).',
+  'desk.zoneUnknown': 'This browser does not know the zone {zone}; its own clock says what is today.',
 
   // ---- door
 
@@ -77,7 +140,44 @@ export default Object.freeze({
 
   // ---- errorlist
 
+  'errorlist.cancel': '{id}, a cancel that found no booking of {target}',
+  'errorlist.cancelOpen': '{id}, a cancel that found no booking of {target} (not final yet)',
+  'errorlist.request': '{id} {date} {hours} {title}',
+  'errorlist.requestOpen': '{id} {date} {hours} {title} (not final yet)',
+  'errorlist.withdrawn': '{id} {date} {hours} {title} (not final yet), withdrawn by {by}',
+
   // ---- figures
+
+  'figures.all': 'All',
+  'figures.allRooms': 'All rooms',
+  'figures.booked': 'Booked',
+  'figures.bookings': 'Bookings',
+  'figures.byMonth': 'By month',
+  'figures.byRoom': 'By room',
+  'figures.byWeekday': 'By day of the week',
+  'figures.day': 'Day',
+  'figures.desk': 'The front desk',
+  'figures.drawing': 'All of it as a drawing',
+  'figures.figures': 'Figures',
+  'figures.from': 'From',
+  'figures.hint': 'Hours booked are those within the open hours; the others stand beside them. What found no room, and was not withdrawn, counts on the day that it wished; what a merge moved, or took the room of, is counted for this office’s own requests of the last weeks alone.',
+  'figures.hours': '{hours} h',
+  'figures.lost': 'Lost by a merge',
+  'figures.month': 'Month',
+  'figures.moved': 'Moved by a merge',
+  'figures.noRoom': 'Without a room',
+  'figures.none': 'There are no figures yet: the office’s service writes them, some minutes after it began.',
+  'figures.noneOrLost': 'There are no figures yet, or no connection: the office’s service writes them, some minutes after it began.',
+  'figures.nothing': 'There is nothing of these months.',
+  'figures.open': 'Open',
+  'figures.outside': 'Outside the open hours',
+  'figures.pages': 'Pages',
+  'figures.part': 'Part',
+  'figures.percent': '{percent} %',
+  'figures.room': 'Room',
+  'figures.table': 'All of it as a table (CSV, in minutes)',
+  'figures.to': 'To',
+  'figures.what': 'What the rooms are used for',
 
   // ---- filepart
 
@@ -86,9 +186,48 @@ export default Object.freeze({
 
   // ---- find
 
+  'find.ask': 'A length in minutes, and two times of day, please.',
+  'find.none': 'No room has all of that.',
+  'find.notFree': 'Not free for that long.',
+  'find.take': '{room} is free {day} {hours}: ask for it',
+
   // ---- form
 
+  'form.allTaken': 'No room: {room} is taken at {slot} and at each alternative.',
+  'form.alternative': 'That is alternative {number}: {slot} was taken.',
+  'form.askAllTheSame': 'Ask all the same',
+  'form.choices': 'At most 16 alternatives.',
+  'form.day': 'That is no day from 1990 to 2099.',
+  'form.length': 'A length is a whole number of minutes from 1 to 1440, and at each choice the meeting ends at midnight at the latest.',
+  'form.mayGet': 'The request may still get one until the offices have met. If you take an offer instead, it is withdrawn.',
+  'form.notSent': 'Not booked: {cause}. Nothing was sent; you may press Request again.',
+  'form.numbersUsed': 'This server’s numbers are used up: the office needs a new replica. Tell the operator.',
+  'form.past': '{date}, {hours} is past. Ask for it all the same?',
+  'form.perhaps': 'Perhaps booked ({cause}): look at the sheet before you ask again. It is not sent again by itself.',
+  'form.plainOnly': 'Only plain letters can be kept, no accents and no other scripts.',
+  'form.reallyAsk': 'Ask all the same?',
+  'form.refused': 'Refused: {cause}.',
+  'form.room': 'That is not the name of a room.',
+  'form.sending': 'Sending. Where the browser asks for a password, nothing is sent before it has one.',
+  'form.start': 'A start is a time from 00:00 to 23:59.',
+  'form.taken': 'No room: {room} is taken at {slot}.',
+  'form.timeReached': 'The greatest logical time is reached: this office takes no more requests. Tell the operator.',
+  'form.titleHas': 'This one has {number}.',
+  'form.unknownRoom': 'This office does not know the room: the operator has to add it, or exchange with an office that has it.',
+  'form.unreadable': 'the request cannot be read',
+
   // ---- grid
+
+  'grid.alternative': 'Alternative {number}',
+  'grid.alternativeAt': 'Alternative {number} {hours}',
+  'grid.booking': '{column}, {hours}, {title}, {state}',
+  'grid.free': '{column}, {time} free',
+  'grid.notFinal': '{hours}, not final',
+  'grid.now': 'now, {day} {time}',
+  'grid.wish': 'Wish',
+  'grid.wishAt': 'Wish {hours}',
+  'grid.yourAlternative': '{column}, {time} your alternative {number}',
+  'grid.yourWish': '{column}, {time} your wish',
 
   // ---- grouplist
 
@@ -132,12 +271,81 @@ export default Object.freeze({
 
   // ---- index
 
+  'index.after': 'After',
+  'index.allRooms': 'of all rooms',
+  'index.allRoomsCalendar': 'Calendar to subscribe to, of all rooms',
+  'index.alternatives': 'Alternatives',
+  'index.anyRoom': 'Book the first that is free',
+  'index.ask': 'Ask for a room',
+  'index.before': 'Before',
+  'index.calendar': 'Calendar to subscribe to',
+  'index.close': 'Close',
+  'index.coming': 'Coming',
+  'index.csvFile': 'A CSV or a calendar (.ics)',
+  'index.day': 'Day',
+  'index.days': 'Days',
+  'index.doorDisplay': 'Door display',
+  'index.eachFourth': 'fourth week',
+  'index.eachMonth': 'month, as on its third Tuesday',
+  'index.eachSecond': 'second week',
+  'index.eachThird': 'third week',
+  'index.eachWeek': 'week',
+  'index.equipment': 'Equipment',
+  'index.errors': 'Requests that found no room',
+  'index.errorsHint': 'And cancels that found no booking, of the room that is chosen above. What is not final may still get a room, unless it is withdrawn.',
+  'index.figures': 'Figures',
+  'index.file': 'From a file',
+  'index.fileHint': 'The first line of a CSV names its columns: room, day, start, stop or length, title, and id if there is one. The file stays in this browser: it is shown what each line would become, and nothing is asked for before you press.',
+  'index.fileRoom': 'Room of those that name none of ours',
+  'index.find': 'Find a free room',
+  'index.from': 'From',
+  'index.fromDay': 'From',
+  'index.groups': 'Groups',
+  'index.inEach': 'In each',
+  'index.legend': '{sure} stays, unless it is cancelled. {open} may still move until the offices have met. Press a booking to see or cancel it; press a free time to ask for it, further ones of the same room as alternatives. Arrow keys move about.',
+  'index.length': 'Length in minutes',
+  'index.list': 'Or on these days alone, as 2026-06-30 or 30.6.2026',
+  'index.look': 'Look what is free',
+  'index.mail': 'Mail address (may stay empty)',
+  'index.mailHint': 'Gets a mail of all that becomes of the request. Nobody can read it here again.',
+  'index.many': 'Many at once',
+  'index.mine': 'My requests',
+  'index.mineHint': 'Those of this browser. A cancel frees the room for later requests; it can’t be taken back.',
+  'index.month': 'Month',
+  'index.moves': 'A change of a booking was broken off',
+  'index.news': 'What became of this office’s requests',
+  'index.newsHint': 'Since the offices met. What was told leaves the list at every desk of this office.',
+  'index.none': 'none',
+  'index.offers': 'What is free instead',
+  'index.on': 'On',
+  'index.printDoor': 'Print for the door',
+  'index.progress': 'How many are done',
+  'index.request': 'Request',
+  'index.room': 'Room',
+  'index.search': 'Search',
+  'index.searchFor': 'Title, or a part of it',
+  'index.seats': 'Seats, at least',
+  'index.showList': 'Show the list',
+  'index.skip': 'Go to the request form',
+  'index.start': 'Start',
+  'index.startOver': 'Start over',
+  'index.title': 'Title',
+  'index.to': 'To',
+  'index.today': 'Today',
+  'index.untilDay': 'Until',
+  'index.view': 'View',
+  'index.week': 'Week',
+
   // ---- languagemenu
 
   'languagemenu.automatic': '{name} (auto)',
   'languagemenu.language': 'Language',
 
   // ---- mail
+
+  'mail.given': 'What becomes of request {id} is mailed to that address.',
+  'mail.notTaken': 'The mail address was not taken for request {id} ({cause}): it gets no mails.',
+  'mail.wrong': 'That is no mail address of plain letters, as anna@example.org. Leave it empty for no mails.',
 
   // ---- many
 
@@ -175,7 +383,31 @@ export default Object.freeze({
 
   // ---- mine
 
+  'mine.asked': '{room}, asked for {slot}.',
+  'mine.askedAs': '{room}, asked for {slot}, request {id}.',
+  'mine.cancel': 'Cancel',
+  'mine.day': '{day} {requests}',
+  'mine.dayLost': '{day} {requests}, {without}',
+  'mine.found': 'It has found room by now.',
+  'mine.has': '{date} {hours}.',
+  'mine.lost': 'It had {slot} and lost it to an earlier request.',
+  'mine.noReply': 'No reply came: look at the sheet. It is not sent again.',
+  'mine.none': 'None yet.',
+  'mine.notKnownYet': 'Nobody knows yet whether this is booked. Take it off this list all the same?',
+  'mine.onItsWay': 'On its way',
+  'mine.staysBooked': 'The booking stands: taken off this list, it stays booked all the same. To free the room, cancel it.',
+  'mine.takeOff': 'Take off this list',
+  'mine.takeOffPast': { one: 'Take off all {count} of past days', other: 'Take off all {count} of past days' },
+  'mine.withoutRoom': '{count} without a room',
+
   // ---- month
+
+  'month.bookings': { 0: 'no bookings', one: '{count} booking', other: '{count} bookings' },
+  'month.hint': 'Press a day to see it. Arrow keys move from day to day.',
+  'month.more': { one: 'and {count} more', other: 'and {count} more' },
+  'month.notKnown': 'the room is not known here',
+  'month.notRead': 'not read yet',
+  'month.title': '{room}, {month}',
 
   // ---- move
 
@@ -247,11 +479,52 @@ export default Object.freeze({
 
   // ---- needs
 
+  'needs.seats': { one: '{count} seat', other: '{count} seats' },
+
   // ---- news
+
+  'news.cancelled': { one: '{count} meeting was cancelled by another office', other: '{count} meetings were cancelled by another office' },
+  'news.cancelledToo': { one: '{count} was cancelled by another office', other: '{count} were cancelled by another office' },
+  'news.found': { one: '{count} meeting found a room after all', other: '{count} meetings found a room after all' },
+  'news.foundToo': { one: '{count} found a room after all', other: '{count} found a room after all' },
+  'news.lost': { one: '{count} meeting lost its room', other: '{count} meetings lost their room' },
+  'news.moved': { one: '{count} meeting moved', other: '{count} meetings moved' },
+  'news.movedToo': { one: '{count} moved', other: '{count} moved' },
+  'news.notMarked': 'Not marked as told: {cause}. You may press it again.',
 
   // ---- newslist
 
+  'newslist.all': 'All were told',
+  'newslist.bar': '{changes}.',
+  'newslist.day': '{day}: {changes}',
+  'newslist.found': 'Found a room',
+  'newslist.hadCancelled': 'It had {slot}, and was cancelled by another office (request {id}).',
+  'newslist.hadLost': 'It had {slot}, and lost it to an earlier request.',
+  'newslist.hasRoom': 'It has a room by now: {slot}.',
+  'newslist.hide': 'Hide the list',
+  'newslist.lost': 'Lost its room',
+  'newslist.mayChange': 'It may still change until the offices have met.',
+  'newslist.mayGet': 'It may still get a room until the offices have met.',
+  'newslist.more': 'Show {number} more',
+  'newslist.moved': 'Moved',
+  'newslist.noRoom': 'It has no room.',
+  'newslist.reallyAll': 'All {number} of {day} were told? They leave the list at all desks of this office.',
+  'newslist.request': '{room}, request {id}.',
+  'newslist.show': 'Show the list',
+  'newslist.then': '{before} Then: {after}',
+  'newslist.told': 'I have told them',
+  'newslist.toldAll': 'I have told all {number} of this day',
+  'newslist.wanted': 'It wanted {slot}, and has no room.',
+  'newslist.wasCancelled': 'It was cancelled by another office (request {id}).',
+  'newslist.withdrawn': 'It is withdrawn.',
+
   // ---- offers
+
+  'offers.freeIn': 'Free in {room}:',
+  'offers.none': 'Nothing of that length is free on {day} in any room.',
+  'offers.notWithdrawn': 'The request before, {id}, is not withdrawn, and may still be booked too. Press Withdraw at it, under My requests.',
+  'offers.reallyWithdraw': 'Request {id} ({title}, {room}) has no room, and may still get one. Withdraw it, now that another one is booked?',
+  'offers.withdraw': 'Withdraw it',
 
   // ---- office
 
@@ -302,6 +575,11 @@ export default Object.freeze({
 
   // ---- print
 
+  'print.asOf': '{office}, as of {day} {time}',
+  'print.code': 'The page of this day',
+  'print.none': 'No bookings.',
+  'print.notRead': 'No sheet was read.',
+
   // ---- readcsv
 
   'readcsv.cells': 'it has {cells} cells, and the first line {columns}',
@@ -343,6 +621,13 @@ export default Object.freeze({
 
   // ---- search
 
+  'search.days': { one: '{count} day', other: '{count} days' },
+  'search.found': { 0: 'Nothing found.', one: '{count} found.', other: '{count} found.' },
+  'search.foundMore': { one: '{count} found; the first {shown} are shown.', other: '{count} found; the first {shown} are shown.' },
+  'search.hint': { 0: 'Looks through what this browser has read: 0 sheets of 0 days. A month or the coming bookings of a room, once shown, add theirs.', one: 'Looks through what this browser has read: {count} sheet of {days}, from {from} to {to}. A month or the coming bookings of a room, once shown, add theirs.', other: 'Looks through what this browser has read: {count} sheets of {days}, from {from} to {to}. A month or the coming bookings of a room, once shown, add theirs.' },
+  'search.show': 'Show the day',
+  'search.showOf': 'Show the day: {title}, {where}',
+
   // ---- sending
 
   'sending.refused': '{cause}.',
@@ -358,16 +643,38 @@ export default Object.freeze({
 
   // ---- states
 
+  'states.areTaken': 'All its hours are taken. It may still get a room until the offices have met; if you can do without it, withdraw it.',
+  'states.booked': 'Booked',
   'states.cancelled': 'Cancelled',
+  'states.cancelledBy': 'Request {id} cancelled it.',
+  'states.cancelledByOpen': 'Request {id} cancelled it; not final yet.',
+  'states.knownNoMore': 'This office does not know the request any more. Tell the operator.',
+  'states.mayMove': 'It may still move until the offices have met.',
   'states.noRoom': 'No room',
   'states.notFinal': 'Booked, not final yet',
   'states.perhaps': 'Perhaps booked',
+  'states.unknown': 'Not known',
+  'states.wereTaken': 'All its hours were taken.',
+  'states.withdrawn': 'Withdrawn',
+  'states.withdrawnBy': 'Request {id} withdrew it: it had no room, and gets none any more.',
 
   // ---- texts
 
   'texts.day': '{weekday} {date}',
 
   // ---- wish
+
+  'wish.alternativesOf': 'Your alternatives are for {room}.',
+  'wish.changeRoom': 'Change the room',
+  'wish.clash': '{start} to {stop} is {title}.',
+  'wish.goOn': 'Go on: {room}, {hours}',
+  'wish.held': { 0: 'Your wish is {room}, {slot}.', one: 'Your wish is {room}, {slot}, with {count} more.', other: 'Your wish is {room}, {slot}, with {count} more.' },
+  'wish.letters': '{number} of {most} letters',
+  'wish.oneRoom': 'A request is for one room. Ask for {room}, {slot} instead?',
+  'wish.reallyAgain': 'What is filled in goes. Ask for {title} again?',
+  'wish.takeBack': 'Take back',
+  'wish.takeBackSlot': 'Take back {slot}',
+  'wish.when': '{day}, {hours}',
 
   // ---- written
 

@@ -2,15 +2,28 @@
 export default Object.freeze({
   // ---- all
 
+  'all.askAgain': 'Redemander',
   'all.askFor': 'Demander {what}',
   'all.backwards': 'la fin n’est pas après le début',
+  'all.change': 'Modifier',
   'all.close': 'Fermer',
+  'all.dayTime': '{day}, {time}',
   'all.labelled': '{words} : {title}',
   'all.leaveIt': 'Laisser ainsi',
   'all.midnight': 'Une réunion se termine au plus tard à minuit.',
+  'all.moved': 'Déplacé du {from} au {to}.',
+  'all.no': 'Non',
   'all.notRead': 'Pas encore lu.',
+  'all.outcome': '{state} : {where} (demande {id}).',
+  'all.requests': { one: '{count} demande', other: '{count} demandes' },
+  'all.showDay': 'Afficher la journée',
+  'all.slot': '{date} à {start}',
   'all.stop': 'Arrêter',
+  'all.takePlain': 'Prendre « {title} »',
+  'all.titleRule': 'Un titre a de 1 à {most} lettres simples, chiffres et signes.',
   'all.unknownRoom': 'Ce site ne connaît pas la salle.',
+  'all.where': '{room}, {day}, {hours}',
+  'all.withdraw': 'Retirer',
 
   // ---- fault
 
@@ -42,13 +55,63 @@ export default Object.freeze({
 
   // ---- anyroom
 
+  'anyroom.allGone': 'Pas réservé : tout ce qui était libre a été pris entre-temps.',
+  'anyroom.asking': { 0: 'Demande en cours : {where}.', one: 'Demande en cours : {where}, car une autre salle vient d’être prise.', other: 'Demande en cours : {where}, car {count} autres viennent d’être prises.' },
+  'anyroom.noneFree': 'Pas réservé : aucune salle n’est libre aussi longtemps.',
+  'anyroom.notBooked': 'Pas réservé : {cause}.',
+  'anyroom.notSent': 'Pas réservé : {cause}. Rien n’a été envoyé ; vous pouvez réessayer.',
+  'anyroom.perhaps': 'Peut-être réservé ({cause}) : regardez le planning avant de redemander.',
+  'anyroom.perhapsBooked': 'Peut-être réservé : {where} ({cause}). Regardez le planning avant de redemander.',
+  'anyroom.stillWaits': 'La demande {id} n’a pas trouvé de salle et peut encore en obtenir une : retirez-la, sous « Mes demandes », avant de redemander.',
+
   // ---- box
+
+  'box.cancel': 'Annuler cette réservation',
+  'box.request': 'Demande {id}.',
+  'box.seen': 'Affiché ainsi depuis {time}.',
 
   // ---- cancel
 
+  'cancel.cancelNotSent': 'Pas annulé : {cause}. Rien n’a été envoyé ; vous pouvez appuyer de nouveau sur « Annuler ».',
+  'cancel.cancelled': 'Annulé : {title}, par la demande {id} ; pas encore définitif.',
+  'cancel.cancelling': 'Annulation en cours',
+  'cancel.hadRoom': 'Une salle avait été trouvée entre-temps, la réservation est annulée : {title}, par la demande {id} ; pas encore définitif.',
+  'cancel.notCancelled': 'Pas annulé : {cause}.',
+  'cancel.notWithdrawn': 'Pas retirée : {cause}.',
+  'cancel.nothing': 'Il n’y avait pas de réservation à annuler : {title}. Si la demande trouve une salle plus tard, elle sera alors annulée.',
+  'cancel.numbersUsed': 'les numéros de ce serveur sont épuisés. Prévenez l’administrateur',
+  'cancel.perhapsCancelled': 'Peut-être annulé ({cause}) : son état ici le montre.',
+  'cancel.perhapsWithdrawn': 'Peut-être retirée ({cause}) : son état ici le montre.',
+  'cancel.reallyCancel': 'Vraiment annuler ?',
+  'cancel.reallyWithdraw': 'Vraiment retirer ?',
+  'cancel.timeReached': 'le plus grand temps logique est atteint. Prévenez l’administrateur',
+  'cancel.unknownRequest': 'ce site ne connaît pas la demande',
+  'cancel.unknownRoom': 'ce site ne connaît pas la salle',
+  'cancel.withdrawNotSent': 'Pas retirée : {cause}. Rien n’a été envoyé ; vous pouvez appuyer de nouveau sur « Retirer ».',
+  'cancel.withdrawing': 'Retrait en cours',
+  'cancel.withdrawn': 'Retirée : {title}, par la demande {id}. Elle n’obtiendra plus de salle.',
+
   // ---- coming
 
+  'coming.none': 'Aucune réservation ces jours-là.',
+  'coming.title': '{room}, du {from} au {to}',
+  'coming.unread': { one: '{count} jour n’est pas encore lu.', other: '{count} jours ne sont pas encore lus.' },
+
   // ---- desk
+
+  'desk.find': 'Salles libres, {day}',
+  'desk.fresh': 'Situation : {time} ; actualisée toutes les 30 secondes.',
+  'desk.lost': 'Pas de connexion avec le site depuis {time} ({cause}).',
+  'desk.noDay': 'Le jour {day} n’existe pas ; voici aujourd’hui.',
+  'desk.noRoom': 'La salle {room} n’existe pas.',
+  'desk.noSheet': 'Il n’y a aucun planning à afficher.',
+  'desk.noView': 'La vue {view} n’existe pas.',
+  'desk.old': 'L’affichage est ancien, situation : {time}.',
+  'desk.search': 'Recherche',
+  'desk.stale': 'Ancien, situation : {time} ; nouvelles tentatives en cours.',
+  'desk.times': 'Les heures sont celles du lieu des salles.',
+  'desk.timesOfZone': 'Les heures sont celles du lieu des salles ({zone}).',
+  'desk.zoneUnknown': 'Ce navigateur ne connaît pas le fuseau {zone} ; c’est sa propre horloge qui dit quel jour nous sommes.',
 
   // ---- door
 
@@ -77,7 +140,44 @@ export default Object.freeze({
 
   // ---- errorlist
 
+  'errorlist.cancel': '{id}, une annulation qui n’a pas trouvé de réservation {target}',
+  'errorlist.cancelOpen': '{id}, une annulation qui n’a pas trouvé de réservation {target} (pas encore définitif)',
+  'errorlist.request': '{id} : {date}, {hours}, {title}',
+  'errorlist.requestOpen': '{id} : {date}, {hours}, {title} (pas encore définitif)',
+  'errorlist.withdrawn': '{id} : {date}, {hours}, {title} (pas encore définitif), retirée par {by}',
+
   // ---- figures
+
+  'figures.all': 'Total',
+  'figures.allRooms': 'Toutes les salles',
+  'figures.booked': 'Réservé',
+  'figures.bookings': 'Réservations',
+  'figures.byMonth': 'Par mois',
+  'figures.byRoom': 'Par salle',
+  'figures.byWeekday': 'Par jour de la semaine',
+  'figures.day': 'Jour',
+  'figures.desk': 'Vers l’accueil',
+  'figures.drawing': 'Le tout sous forme de graphique',
+  'figures.figures': 'Statistiques',
+  'figures.from': 'De',
+  'figures.hint': 'Les heures réservées sont celles comprises dans les heures d’ouverture ; les autres figurent à côté. Ce qui n’a pas trouvé de salle et n’a pas été retiré compte pour le jour souhaité ; ce qu’une synchronisation a déplacé ou privé de sa salle n’est compté que pour les demandes de ce site, ces dernières semaines.',
+  'figures.hours': '{hours} h',
+  'figures.lost': 'Perdues à la synchronisation',
+  'figures.month': 'Mois',
+  'figures.moved': 'Déplacées à la synchronisation',
+  'figures.noRoom': 'Sans salle',
+  'figures.none': 'Il n’y a pas encore de statistiques : le service du site les écrit quelques minutes après son démarrage.',
+  'figures.noneOrLost': 'Il n’y a pas encore de statistiques, ou pas de connexion : le service du site les écrit quelques minutes après son démarrage.',
+  'figures.nothing': 'Il n’y a rien pour ces mois.',
+  'figures.open': 'Ouvert',
+  'figures.outside': 'Hors des heures d’ouverture',
+  'figures.pages': 'Pages',
+  'figures.part': 'Taux',
+  'figures.percent': '{percent} %',
+  'figures.room': 'Salle',
+  'figures.table': 'Le tout sous forme de tableau (CSV, en minutes)',
+  'figures.to': 'À',
+  'figures.what': 'L’utilisation des salles',
 
   // ---- filepart
 
@@ -86,9 +186,48 @@ export default Object.freeze({
 
   // ---- find
 
+  'find.ask': 'Indiquez une durée en minutes et deux heures, s’il vous plaît.',
+  'find.none': 'Aucune salle n’a tout cela.',
+  'find.notFree': 'Pas libre aussi longtemps.',
+  'find.take': '{room} est libre, {day} {hours} : demander',
+
   // ---- form
 
+  'form.allTaken': 'Pas de salle : {room} est occupée le {slot} et à chaque autre choix.',
+  'form.alternative': 'C’est l’autre choix n° {number} : le {slot} était occupé.',
+  'form.askAllTheSame': 'Demander quand même',
+  'form.choices': 'Au plus 16 autres choix.',
+  'form.day': 'Ce n’est pas un jour de 1990 à 2099.',
+  'form.length': 'La durée est un nombre entier de minutes, de 1 à 1440, et pour chaque choix la réunion se termine à minuit au plus tard.',
+  'form.mayGet': 'La demande peut encore en obtenir une jusqu’à la synchronisation des sites. Si vous prenez une offre à la place, elle est retirée.',
+  'form.notSent': 'Pas réservé : {cause}. Rien n’a été envoyé ; vous pouvez appuyer de nouveau sur « Demander ».',
+  'form.numbersUsed': 'Les numéros de ce serveur sont épuisés : le site a besoin d’un nouveau réplica. Prévenez l’administrateur.',
+  'form.past': '{date}, {hours} : c’est déjà passé. Demander quand même ?',
+  'form.perhaps': 'Peut-être réservé ({cause}) : regardez le planning avant de redemander. Rien n’est renvoyé automatiquement.',
+  'form.plainOnly': 'Seules les lettres simples peuvent être conservées, sans accents ni autres écritures.',
+  'form.reallyAsk': 'Demander quand même ?',
+  'form.refused': 'Refusé : {cause}.',
+  'form.room': 'Ce n’est pas le nom d’une salle.',
+  'form.sending': 'Envoi en cours. Si le navigateur demande un mot de passe, rien n’est envoyé avant qu’il l’ait.',
+  'form.start': 'Le début est une heure de 00:00 à 23:59.',
+  'form.taken': 'Pas de salle : {room} est occupée le {slot}.',
+  'form.timeReached': 'Le plus grand temps logique est atteint : ce site ne prend plus de demandes. Prévenez l’administrateur.',
+  'form.titleHas': 'Celui-ci en a {number}.',
+  'form.unknownRoom': 'Ce site ne connaît pas la salle : l’administrateur doit l’ajouter, ou synchroniser avec un site qui l’a.',
+  'form.unreadable': 'la demande est illisible',
+
   // ---- grid
+
+  'grid.alternative': 'Autre choix {number}',
+  'grid.alternativeAt': 'Autre choix {number} {hours}',
+  'grid.booking': '{column}, {hours}, {title}, {state}',
+  'grid.free': '{column}, {time} libre',
+  'grid.notFinal': '{hours}, non définitif',
+  'grid.now': 'maintenant, {day} {time}',
+  'grid.wish': 'Souhait',
+  'grid.wishAt': 'Souhait {hours}',
+  'grid.yourAlternative': '{column}, {time} votre autre choix {number}',
+  'grid.yourWish': '{column}, {time} votre souhait',
 
   // ---- grouplist
 
@@ -132,12 +271,81 @@ export default Object.freeze({
 
   // ---- index
 
+  'index.after': 'Suivant',
+  'index.allRooms': 'de toutes les salles',
+  'index.allRoomsCalendar': 'S’abonner au calendrier de toutes les salles',
+  'index.alternatives': 'Autres choix',
+  'index.anyRoom': 'Réserver la première salle libre',
+  'index.ask': 'Demander une salle',
+  'index.before': 'Précédent',
+  'index.calendar': 'S’abonner au calendrier',
+  'index.close': 'Fermer',
+  'index.coming': 'À venir',
+  'index.csvFile': 'Un fichier CSV ou un calendrier (.ics)',
+  'index.day': 'Jour',
+  'index.days': 'Jours',
+  'index.doorDisplay': 'Affichage de porte',
+  'index.eachFourth': 'une semaine sur quatre',
+  'index.eachMonth': 'chaque mois, comme le troisième mardi',
+  'index.eachSecond': 'une semaine sur deux',
+  'index.eachThird': 'une semaine sur trois',
+  'index.eachWeek': 'chaque semaine',
+  'index.equipment': 'Équipement',
+  'index.errors': 'Demandes restées sans salle',
+  'index.errorsHint': 'Et les annulations qui n’ont trouvé aucune réservation, pour la salle choisie ci-dessus. Ce qui n’est pas définitif peut encore obtenir une salle, à moins d’être retiré.',
+  'index.figures': 'Statistiques',
+  'index.file': 'Depuis un fichier',
+  'index.fileHint': 'La première ligne d’un fichier CSV nomme ses colonnes : salle, jour, début, fin ou durée, titre, et id s’il y en a un. Le fichier reste dans ce navigateur : la page montre ce que deviendrait chaque ligne, et rien n’est demandé sans votre accord.',
+  'index.fileRoom': 'Salle pour les lignes qui n’en nomment aucune des nôtres',
+  'index.find': 'Trouver une salle libre',
+  'index.from': 'De',
+  'index.fromDay': 'Du',
+  'index.groups': 'Groupes',
+  'index.inEach': 'Fréquence',
+  'index.legend': '{sure} : reste tel quel, sauf annulation. {open} : peut encore changer jusqu’à la synchronisation des sites. Choisissez une réservation pour la voir ou l’annuler ; choisissez une heure libre pour la demander, puis d’autres de la même salle comme autres choix. Les flèches du clavier permettent de se déplacer.',
+  'index.length': 'Durée en minutes',
+  'index.list': 'Ou seulement ces jours, comme 2026-06-30 ou 30.6.2026',
+  'index.look': 'Voir ce qui est libre',
+  'index.mail': 'Adresse e-mail (facultative)',
+  'index.mailHint': 'Reçoit un e-mail à chaque changement de la demande. Plus personne ne pourra lire l’adresse ici.',
+  'index.many': 'Plusieurs à la fois',
+  'index.mine': 'Mes demandes',
+  'index.mineHint': 'Celles de ce navigateur. Une annulation libère la salle pour des demandes ultérieures ; on ne peut pas revenir dessus.',
+  'index.month': 'Mois',
+  'index.moves': 'La modification d’une réservation a été interrompue',
+  'index.news': 'Ce que sont devenues les demandes de ce site',
+  'index.newsHint': 'Depuis la synchronisation des sites. Ce qui a été annoncé quitte la liste à chaque accueil de ce site.',
+  'index.none': 'aucun',
+  'index.offers': 'Ce qui est libre à la place',
+  'index.on': 'Ces jours de la semaine',
+  'index.printDoor': 'Imprimer pour la porte',
+  'index.progress': 'Combien sont faites',
+  'index.request': 'Demander',
+  'index.room': 'Salle',
+  'index.search': 'Rechercher',
+  'index.searchFor': 'Titre, ou une partie du titre',
+  'index.seats': 'Places, au moins',
+  'index.showList': 'Afficher la liste',
+  'index.skip': 'Aller au formulaire de demande',
+  'index.start': 'Début',
+  'index.startOver': 'Recommencer',
+  'index.title': 'Titre',
+  'index.to': 'À',
+  'index.today': 'Aujourd’hui',
+  'index.untilDay': 'Au',
+  'index.view': 'Vue',
+  'index.week': 'Semaine',
+
   // ---- languagemenu
 
   'languagemenu.automatic': '{name} (auto)',
   'languagemenu.language': 'Langue',
 
   // ---- mail
+
+  'mail.given': 'Les suites de la demande {id} sont envoyées à cette adresse par e-mail.',
+  'mail.notTaken': 'L’adresse e-mail n’a pas été prise pour la demande {id} ({cause}) : elle ne reçoit pas d’e-mails.',
+  'mail.wrong': 'Ce n’est pas une adresse e-mail en lettres simples, comme anna@example.org. Laissez le champ vide pour ne pas recevoir d’e-mails.',
 
   // ---- many
 
@@ -175,7 +383,31 @@ export default Object.freeze({
 
   // ---- mine
 
+  'mine.asked': '{room}, demandé pour le {slot}.',
+  'mine.askedAs': '{room}, demandé pour le {slot}, demande {id}.',
+  'mine.cancel': 'Annuler',
+  'mine.day': '{day} : {requests}',
+  'mine.dayLost': '{day} : {requests}, {without}',
+  'mine.found': 'Une salle a été trouvée entre-temps.',
+  'mine.has': '{date}, {hours}.',
+  'mine.lost': 'Réservé pour le {slot}, puis perdu au profit d’une demande antérieure.',
+  'mine.noReply': 'Aucune réponse n’est venue : regardez le planning. La demande n’est pas renvoyée.',
+  'mine.none': 'Aucune pour l’instant.',
+  'mine.notKnownYet': 'Personne ne sait encore si c’est réservé. L’enlever quand même de la liste ?',
+  'mine.onItsWay': 'En cours d’envoi',
+  'mine.staysBooked': 'La réservation tient : même enlevée de cette liste, elle reste en place. Pour libérer la salle, annulez-la.',
+  'mine.takeOff': 'Enlever de la liste',
+  'mine.takeOffPast': { one: 'Enlever de la liste {count} demande passée', other: 'Enlever de la liste les {count} demandes passées' },
+  'mine.withoutRoom': '{count} sans salle',
+
   // ---- month
+
+  'month.bookings': { 0: 'aucune réservation', one: '{count} réservation', other: '{count} réservations' },
+  'month.hint': 'Choisissez un jour pour le voir. Les flèches du clavier mènent d’un jour à l’autre.',
+  'month.more': { one: 'et {count} autre', other: 'et {count} autres' },
+  'month.notKnown': 'la salle n’est pas connue ici',
+  'month.notRead': 'pas encore lu',
+  'month.title': '{room}, {month}',
 
   // ---- move
 
@@ -247,11 +479,52 @@ export default Object.freeze({
 
   // ---- needs
 
+  'needs.seats': { one: '{count} place', other: '{count} places' },
+
   // ---- news
+
+  'news.cancelled': { one: '{count} réunion a été annulée par un autre site', other: '{count} réunions ont été annulées par un autre site' },
+  'news.cancelledToo': { one: '{count} a été annulée par un autre site', other: '{count} ont été annulées par un autre site' },
+  'news.found': { one: '{count} réunion a finalement trouvé une salle', other: '{count} réunions ont finalement trouvé une salle' },
+  'news.foundToo': { one: '{count} a finalement trouvé une salle', other: '{count} ont finalement trouvé une salle' },
+  'news.lost': { one: '{count} réunion a perdu sa salle', other: '{count} réunions ont perdu leur salle' },
+  'news.moved': { one: '{count} réunion a été déplacée', other: '{count} réunions ont été déplacées' },
+  'news.movedToo': { one: '{count} a été déplacée', other: '{count} ont été déplacées' },
+  'news.notMarked': 'Pas noté comme annoncé : {cause}. Vous pouvez appuyer de nouveau.',
 
   // ---- newslist
 
+  'newslist.all': 'Tous sont prévenus',
+  'newslist.bar': '{changes}.',
+  'newslist.day': '{day} : {changes}',
+  'newslist.found': 'Salle trouvée',
+  'newslist.hadCancelled': 'Réservé pour le {slot}, puis annulé par un autre site (demande {id}).',
+  'newslist.hadLost': 'Réservé pour le {slot}, puis perdu au profit d’une demande antérieure.',
+  'newslist.hasRoom': 'Une salle a été trouvée entre-temps : {slot}.',
+  'newslist.hide': 'Masquer la liste',
+  'newslist.lost': 'Salle perdue',
+  'newslist.mayChange': 'Cela peut encore changer jusqu’à la synchronisation des sites.',
+  'newslist.mayGet': 'La demande peut encore obtenir une salle jusqu’à la synchronisation des sites.',
+  'newslist.more': 'En afficher {number} de plus',
+  'newslist.moved': 'Déplacé',
+  'newslist.noRoom': 'Il n’y a pas de salle.',
+  'newslist.reallyAll': 'Les {number} du {day} sont-ils tous prévenus ? Ils quittent la liste à tous les accueils de ce site.',
+  'newslist.request': '{room}, demande {id}.',
+  'newslist.show': 'Afficher la liste',
+  'newslist.then': '{before} Ensuite : {after}',
+  'newslist.told': 'Je les ai prévenus',
+  'newslist.toldAll': 'J’ai prévenu les {number} de ce jour',
+  'newslist.wanted': 'Demandé pour le {slot}, sans salle.',
+  'newslist.wasCancelled': 'Annulé par un autre site (demande {id}).',
+  'newslist.withdrawn': 'La demande est retirée.',
+
   // ---- offers
+
+  'offers.freeIn': 'Libre dans {room} :',
+  'offers.none': 'Le {day}, aucune salle n’est libre pour cette durée.',
+  'offers.notWithdrawn': 'La demande précédente, {id}, n’est pas retirée et peut encore être réservée elle aussi. Appuyez sur « Retirer » à côté d’elle, sous « Mes demandes ».',
+  'offers.reallyWithdraw': 'La demande {id} ({title}, {room}) n’a pas de salle et peut encore en obtenir une. La retirer, maintenant qu’une autre est réservée ?',
+  'offers.withdraw': 'La retirer',
 
   // ---- office
 
@@ -302,6 +575,11 @@ export default Object.freeze({
 
   // ---- print
 
+  'print.asOf': '{office}, situation : {day} {time}',
+  'print.code': 'La page de ce jour',
+  'print.none': 'Aucune réservation.',
+  'print.notRead': 'Aucun planning n’a été lu.',
+
   // ---- readcsv
 
   'readcsv.cells': '{cells} cellules, contre {columns} dans la première ligne',
@@ -343,6 +621,13 @@ export default Object.freeze({
 
   // ---- search
 
+  'search.days': { one: '{count} jour', other: '{count} jours' },
+  'search.found': { 0: 'Rien trouvé.', one: '{count} résultat.', other: '{count} résultats.' },
+  'search.foundMore': { one: '{count} résultat ; les {shown} premiers sont affichés.', other: '{count} résultats ; les {shown} premiers sont affichés.' },
+  'search.hint': { 0: 'Cherche dans ce que ce navigateur a lu : encore aucun planning. Un mois ou les réservations à venir d’une salle, une fois affichés, s’y ajoutent.', one: 'Cherche dans ce que ce navigateur a lu : {count} planning sur {days}, du {from} au {to}. Un mois ou les réservations à venir d’une salle, une fois affichés, s’y ajoutent.', other: 'Cherche dans ce que ce navigateur a lu : {count} plannings sur {days}, du {from} au {to}. Un mois ou les réservations à venir d’une salle, une fois affichés, s’y ajoutent.' },
+  'search.show': 'Afficher le jour',
+  'search.showOf': 'Afficher le jour : {title}, {where}',
+
   // ---- sending
 
   'sending.refused': '{cause}.',
@@ -358,16 +643,38 @@ export default Object.freeze({
 
   // ---- states
 
+  'states.areTaken': 'Tous les horaires demandés sont occupés. La demande peut encore obtenir une salle jusqu’à la synchronisation des sites ; si vous pouvez vous en passer, retirez-la.',
+  'states.booked': 'Réservé',
   'states.cancelled': 'Annulé',
+  'states.cancelledBy': 'Annulé par la demande {id}.',
+  'states.cancelledByOpen': 'Annulé par la demande {id} ; pas encore définitif.',
+  'states.knownNoMore': 'Ce site ne connaît plus la demande. Prévenez l’administrateur.',
+  'states.mayMove': 'La réservation peut encore être déplacée jusqu’à la synchronisation des sites.',
   'states.noRoom': 'Pas de salle',
   'states.notFinal': 'Réservé, pas encore définitif',
   'states.perhaps': 'Peut-être réservé',
+  'states.unknown': 'Inconnue',
+  'states.wereTaken': 'Tous les horaires demandés étaient occupés.',
+  'states.withdrawn': 'Retirée',
+  'states.withdrawnBy': 'Retirée par la demande {id} : elle n’avait pas de salle et n’en obtiendra plus.',
 
   // ---- texts
 
   'texts.day': '{weekday} {date}',
 
   // ---- wish
+
+  'wish.alternativesOf': 'Vos autres choix sont pour {room}.',
+  'wish.changeRoom': 'Changer de salle',
+  'wish.clash': 'De {start} à {stop}, occupé : {title}.',
+  'wish.goOn': 'Continuer : {room}, {hours}',
+  'wish.held': { 0: 'Votre souhait est {room}, {slot}.', one: 'Votre souhait est {room}, {slot}, avec {count} autre choix.', other: 'Votre souhait est {room}, {slot}, avec {count} autres choix.' },
+  'wish.letters': '{number} sur {most} caractères',
+  'wish.oneRoom': 'Une demande est pour une seule salle. Demander {room}, {slot} à la place ?',
+  'wish.reallyAgain': 'Ce qui est rempli sera effacé. Redemander {title} ?',
+  'wish.takeBack': 'Enlever',
+  'wish.takeBackSlot': 'Enlever le {slot}',
+  'wish.when': '{day}, {hours}',
 
   // ---- written
 
