@@ -33,7 +33,7 @@ NAUGHTY = '<img src=x onerror=alert(1)>'
 OURS = 'Zzyzx <i>of ours</i>'
 # what stands in the page and is of no language: names, titles, and what the office's service wrote
 DATA = [*ROOMS.values(), NAUGHTY, OURS, 'Planning', 'Workshop', 'Retrospective', 'Call', 'Tea', 'West office', ZONE, 'Fjord',
-        'north', 'no line', 'Deutsch', 'English', 'Français', 'attic', 'decade', 'room-a', 'room-b', 'room-c', 'Zzyzx', 'UnknownRoom', 'localhost', 'https']
+        'north', 'no line', 'Deutsch', 'English', 'Français', 'attic', 'decade', 'room-a', 'room-b', 'room-c', 'Zzyzx', 'UnknownRoom']
 # a title of which a search has marked a part
 MARKED = ['Plan', 'ning']
 # what the languages say of the same things
@@ -86,7 +86,7 @@ def without(text, piece):
 
 def foreign(text, language, names):
     """What of a text is of no sentence of its language, and neither a name, a title, a day nor a number."""
-    rest = cleared(text)
+    rest = re.sub(r'https://\S+', ' ', cleared(text))
     for piece in [*DATA, *PIECES[language], *names, *MARKED]:
         rest = without(rest, piece)
     return ' '.join(re.findall(r'[^\W\d_]{2,}', rest))
