@@ -100,17 +100,17 @@ export default Object.freeze({
   // ---- desk
 
   'desk.find': 'Salles libres, {day}',
-  'desk.fresh': 'Situation : {time} ; actualisée toutes les 30 secondes.',
+  'desk.fresh': 'Dernière lecture : {time} ; actualisation toutes les 30 secondes.',
   'desk.lost': 'Pas de connexion avec le site depuis {time} ({cause}).',
   'desk.noDay': 'Le jour {day} n’existe pas ; voici aujourd’hui.',
   'desk.noRoom': 'La salle {room} n’existe pas.',
-  'desk.noSheet': 'Il n’y a aucun planning à afficher.',
+  'desk.noSheet': 'Aucun planning à afficher.',
   'desk.noView': 'La vue {view} n’existe pas.',
-  'desk.old': 'L’affichage est ancien, situation : {time}.',
+  'desk.old': 'L’affichage n’est plus à jour (dernière lecture : {time}).',
   'desk.search': 'Recherche',
-  'desk.stale': 'Ancien, situation : {time} ; nouvelles tentatives en cours.',
-  'desk.times': 'Les heures sont celles du lieu des salles.',
-  'desk.timesOfZone': 'Les heures sont celles du lieu des salles ({zone}).',
+  'desk.stale': 'Plus à jour (dernière lecture : {time}) ; nouvelles tentatives en cours.',
+  'desk.times': 'Les heures sont les heures locales des salles.',
+  'desk.timesOfZone': 'Les heures sont les heures locales des salles ({zone}).',
   'desk.zoneUnknown': 'Ce navigateur ne connaît pas le fuseau {zone} ; c’est sa propre horloge qui dit quel jour nous sommes.',
 
   // ---- door
@@ -157,7 +157,7 @@ export default Object.freeze({
   'figures.byRoom': 'Par salle',
   'figures.byWeekday': 'Par jour de la semaine',
   'figures.day': 'Jour',
-  'figures.desk': 'Vers l’accueil',
+  'figures.desk': 'Retour à l’accueil',
   'figures.drawing': 'Le tout sous forme de graphique',
   'figures.figures': 'Statistiques',
   'figures.from': 'De',
@@ -173,12 +173,12 @@ export default Object.freeze({
   'figures.open': 'Ouvert',
   'figures.outside': 'Hors des heures d’ouverture',
   'figures.pages': 'Pages',
-  'figures.part': 'Taux',
+  'figures.part': 'Occupation',
   'figures.percent': '{percent} %',
   'figures.room': 'Salle',
   'figures.table': 'Le tout sous forme de tableau (CSV, en minutes)',
   'figures.to': 'À',
-  'figures.what': 'L’utilisation des salles',
+  'figures.what': 'Utilisation des salles',
 
   // ---- filepart
 
@@ -284,9 +284,9 @@ export default Object.freeze({
   'index.csvFile': 'Un fichier CSV ou un calendrier (.ics)',
   'index.day': 'Jour',
   'index.days': 'Jours',
-  'index.doorDisplay': 'Affichage de porte',
+  'index.doorDisplay': 'Affichage à la porte',
   'index.eachFourth': 'une semaine sur quatre',
-  'index.eachMonth': 'chaque mois, comme le troisième mardi',
+  'index.eachMonth': 'chaque mois, p. ex. le troisième mardi',
   'index.eachSecond': 'une semaine sur deux',
   'index.eachThird': 'une semaine sur trois',
   'index.eachWeek': 'chaque semaine',
@@ -296,7 +296,7 @@ export default Object.freeze({
   'index.figures': 'Statistiques',
   'index.file': 'Depuis un fichier',
   'index.fileHint': 'La première ligne d’un fichier CSV nomme ses colonnes : salle, jour, début, fin ou durée, titre, et id s’il y en a un. Le fichier reste dans ce navigateur : la page montre ce que deviendrait chaque ligne, et rien n’est demandé sans votre accord.',
-  'index.fileRoom': 'Salle pour les lignes qui n’en nomment aucune des nôtres',
+  'index.fileRoom': 'Salle pour les lignes sans salle connue',
   'index.find': 'Trouver une salle libre',
   'index.from': 'De',
   'index.fromDay': 'Du',
@@ -310,11 +310,11 @@ export default Object.freeze({
   'index.mailHint': 'Reçoit un e-mail à chaque changement de la demande. Plus personne ne pourra lire l’adresse ici.',
   'index.many': 'Plusieurs à la fois',
   'index.mine': 'Mes demandes',
-  'index.mineHint': 'Celles de ce navigateur. Une annulation libère la salle pour des demandes ultérieures ; on ne peut pas revenir dessus.',
+  'index.mineHint': 'Celles de ce navigateur. Une annulation libère la salle pour les demandes suivantes ; elle est irréversible.',
   'index.month': 'Mois',
   'index.moves': 'La modification d’une réservation a été interrompue',
   'index.news': 'Ce que sont devenues les demandes de ce site',
-  'index.newsHint': 'Depuis la synchronisation des sites. Ce qui a été annoncé quitte la liste à chaque accueil de ce site.',
+  'index.newsHint': 'Depuis la synchronisation des sites. Ce qui a été signalé aux intéressés disparaît de la liste à tous les postes d’accueil de ce site.',
   'index.none': 'aucun',
   'index.offers': 'Ce qui est libre à la place',
   'index.on': 'Ces jours de la semaine',
@@ -575,7 +575,7 @@ export default Object.freeze({
 
   // ---- print
 
-  'print.asOf': '{office}, situation : {day} {time}',
+  'print.asOf': '{office}, situation au {day} à {time}',
   'print.code': 'La page de ce jour',
   'print.none': 'Aucune réservation.',
   'print.notRead': 'Aucun planning n’a été lu.',
@@ -623,7 +623,7 @@ export default Object.freeze({
   // ---- search
 
   'search.days': { one: '{count} jour', other: '{count} jours' },
-  'search.found': { 0: 'Rien trouvé.', one: '{count} résultat.', other: '{count} résultats.' },
+  'search.found': { 0: 'Aucun résultat.', one: '{count} résultat.', other: '{count} résultats.' },
   'search.foundMore': { one: '{count} résultat ; les {shown} premiers sont affichés.', other: '{count} résultats ; les {shown} premiers sont affichés.' },
   'search.hint': { 0: 'Cherche dans ce que ce navigateur a lu : encore aucun planning. Un mois ou les réservations à venir d’une salle, une fois affichés, s’y ajoutent.', one: 'Cherche dans ce que ce navigateur a lu : {count} planning sur {days}, du {from} au {to}. Un mois ou les réservations à venir d’une salle, une fois affichés, s’y ajoutent.', other: 'Cherche dans ce que ce navigateur a lu : {count} plannings sur {days}, du {from} au {to}. Un mois ou les réservations à venir d’une salle, une fois affichés, s’y ajoutent.' },
   'search.showOf': 'Afficher la journée : {title}, {where}',
