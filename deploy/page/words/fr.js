@@ -449,17 +449,17 @@ export default Object.freeze({
   'movelist.renamed': '{slot}, {title}',
   'movelist.slot': '{room}, {day}, {hours}',
   'movelist.taken': 'Pas réservé : {slot} est occupé.',
-  'movelist.takenBack': 'La nouvelle demande {id} est reprise ; {slot} reste réservé.',
+  'movelist.takenBack': 'La nouvelle demande {id} est retirée ; {slot} reste réservé.',
   'movelist.unknown': 'On ne sait pas encore ce qu’il en est ({cause}). Une nouvelle vérification va suivre.',
   'movelist.withdraw': 'Retirer cette demande',
 
   // ---- moving
 
-  'moving.asking': 'La nouvelle réservation est demandée.',
+  'moving.asking': 'Demande de la nouvelle réservation en cours.',
   'moving.back': 'Si le nouvel horaire est pris d’ici là, l’ancien est redemandé.',
   'moving.backAgain': 'Pas modifié. {why} La réservation a retrouvé son ancien horaire, demande {id}.',
   'moving.brokenOff': 'Le changement a été interrompu ({cause}). Ce qu’il en est s’affiche en haut de la page.',
-  'moving.cancelling': 'L’ancienne réservation est annulée.',
+  'moving.cancelling': 'Annulation de l’ancienne réservation en cours.',
   'moving.changed': 'Modifié : {title}, {slot}, demande {id}, à la place de {old} ; pas encore définitif.',
   'moving.fellBack': 'Pas déplacé : {slot} a été pris entre-temps. La réservation a retrouvé son ancien horaire, demande {id}.',
   'moving.gone': 'Pas déplacé : la réservation était déjà annulée ou avait perdu sa salle. Rien n’a été demandé.',
