@@ -53,6 +53,7 @@ doors 60
 anyroom 45
 report 40
 looking 40
+languages 200
 many 180
 told 180
 '

@@ -1,6 +1,7 @@
 // The buttons of a tablet at a door: to book the room from now on, to check in, and to end what is under way. Each is sent once.
 import { buttonOf, MIDNIGHT, renew, timeOf } from './texts.js';
 import { Fault, now, page } from './office.js';
+import { say } from './words.js';
 import { addHere, isKnown, readHere, releaseOf, toCheckIn } from './checkin.js';
 import { askBook, askCancel, LENGTHS, markHere } from './tablet.js';
 
@@ -12,7 +13,7 @@ let said = { words: '', until: 0 };
 const under = minute => at.rows.find(row => row.start <= minute && minute < row.stop) || null;
 export const saidNow = () => Date.now() < said.until ? said.words : '';
 
-function say(words) { said = { words, until: Date.now() + SAID }; }
+function leave(words) { said = { words, until: Date.now() + SAID }; }
 
 /** Puts the buttons of this moment into a place; none where the office isn't heard, or the room's door has none. */
 export function showActs(place, room, rows, door, isHeard) {
@@ -21,10 +22,10 @@ export function showActs(place, room, rows, door, isHeard) {
   place.hidden = !door || !rows || !isHeard;
   if (place.hidden) return renew(place);
   const coming = door.release ? toCheckIn(at.rows, minute) : null, goes = releaseOf(at.rows, minute, door.release);
-  if (coming) buttons.push(actButton('Check in' + (goes ? ', by ' + timeOf(Math.min(goes.at, MIDNIGHT - 1)) + ' at the latest' : ''), checkIn, 'main'));
-  if (present) buttons.push(actButton(armed === present.id ? 'Really end it?' : 'End now', end, armed === present.id ? 'armed' : ''));
+  if (coming) buttons.push(actButton(goes ? say('acts.checkInBy', { time: timeOf(Math.min(goes.at, MIDNIGHT - 1)) }) : say('acts.checkIn'), checkIn, 'main'));
+  if (present) buttons.push(actButton(armed === present.id ? say('acts.reallyEnd') : say('acts.end'), end, armed === present.id ? 'armed' : ''));
   const free = (at.rows.find(row => row.start > minute) || { start: MIDNIGHT }).start - minute;
-  if (!present) for (const length of LENGTHS.filter(each => each <= free)) buttons.push(actButton('Book ' + length + ' min', () => book(length), ''));
+  if (!present) for (const length of LENGTHS.filter(each => each <= free)) buttons.push(actButton(say('acts.book', { length }), () => book(length), ''));
   renew(place, ...buttons);
 }
 
@@ -43,7 +44,7 @@ async function once(act) {
     await act();
   } catch (fault) {
     if (!(fault instanceof Fault)) throw fault;
-    say(fault.sent ? 'Perhaps done (' + fault.message + '): look at what is shown next.' : 'Not done: ' + fault.message + '.');
+    leave(say(fault.sent ? 'acts.perhapsDone' : 'acts.notDone', { cause: fault.message }));
   } finally {
     isBusy = false;
   }
@@ -52,13 +53,13 @@ async function once(act) {
 
 async function book(length) {
   const { room } = at, { day, minute } = now(), { status, json } = await askBook(room, day, timeOf(minute), length);
-  if (status !== 200) return say('Not booked: ' + json.name + '.');
+  if (status !== 200) return leave(say('acts.notBooked', { cause: json.name }));
   if (json.state === 'booked') {
-    say('Booked until ' + json.stop + '.');
+    leave(say('acts.booked', { time: json.stop }));
     await markHere(room, json.id);
     return addHere(json.id);
   }
-  say('Not booked: somebody was a moment earlier.');
+  leave(say('acts.late'));
   await askCancel(room, json.id);
 }
 
@@ -67,7 +68,7 @@ async function checkIn() {
   if (!row) return;
   await markHere(at.room, row.id);
   addHere(row.id);
-  say('Checked in to ' + row.title + '.');
+  leave(say('acts.checkedIn', { title: row.title }));
 }
 
 async function end() {
@@ -80,7 +81,7 @@ async function end() {
   }
   armed = '';
   const { status, json } = await askCancel(at.room, row.id);
-  say(status === 200 ? 'Ended: ' + row.title + '.' : 'Not ended: ' + json.name + '.');
+  leave(status === 200 ? say('acts.ended', { title: row.title }) : say('acts.notEnded', { cause: json.name }));
 }
 
 /** Takes back the booking under way if nobody checked in to it in time, by what is known at this moment. */
@@ -91,6 +92,6 @@ export async function releaseUnused(room, rows, door) {
   const goes = due();
   if (!isKnown() || !goes || now().minute < goes.at) return false;
   const { status } = await askCancel(room, goes.row.id);
-  if (status === 200) say('Released at ' + timeOf(now().minute) + ': nobody checked in to ' + goes.row.title + '.');
+  if (status === 200) leave(say('acts.released', { time: timeOf(now().minute), title: goes.row.title }));
   return status === 200;
 }

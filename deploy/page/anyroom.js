@@ -1,31 +1,32 @@
 // Any room: of those that are free the first one is asked for, and the next if that had gone. A request that found no room is withdrawn
 // before the next one is sent, so that never two are booked; where no reply comes, none is sent any more.
-import { byId, buttonOf, clashesOf, hoursText, isPlain, MIDNIGHT, plainOf, timeOf, weekday } from './texts.js';
+import { byId, buttonOf, clashesOf, hoursText, isPlain, MIDNIGHT, plainOf, timeOf, dayText } from './texts.js';
 import { Fault, ask, askMayBook, askSheet, labelOf, page } from './office.js';
 import { sendCancel } from './cancel.js';
 import { firstFree } from './find.js';
 import { addMine, dropMine, keepMine, replied } from './mine.js';
 import { stateOf } from './states.js';
 import { LONGEST } from './wish.js';
+import { say } from './words.js';
 
 const MOST = 8;
 let isSending = false;
 
-function say(words, isGood) {
+function tell(words, isGood) {
   byId('any-said').replaceChildren(...[words].flat());
   byId('any-said').className = isGood ? 'good' : 'bad';
 }
 
 /** A hand is at the fields: what came of the last press is said no longer. */
-export function typedAny() { if (!isSending) say('', true); }
+export function typedAny() { if (!isSending) tell('', true); }
 
 /** The title that is typed, or nothing where it complained. */
 function titleOf() {
   const title = byId('any-title').value.trim(), plain = plainOf(title);
   if (isPlain(title) && title !== '' && title.length <= LONGEST) return title;
-  const take = () => { byId('any-title').value = plain; say(''); byId('any-title').focus(); };
-  const offer = !isPlain(title) && plain && plain.length <= LONGEST ? [' ', buttonOf('Take “' + plain + '”', take)] : [];
-  say(['A title has 1 to ' + LONGEST + ' plain letters, digits and signs.', ...offer]);
+  const take = () => { byId('any-title').value = plain; tell(''); byId('any-title').focus(); };
+  const offer = !isPlain(title) && plain && plain.length <= LONGEST ? [' ', buttonOf(say('all.takePlain', { title: plain }), take)] : [];
+  tell([say('all.titleRule', { most: LONGEST }), ...offer]);
   byId('any-title').focus();
   return '';
 }
@@ -42,7 +43,7 @@ export async function askAny(event) {
     await askInTurn(title);
   } catch (fault) {
     if (!(fault instanceof Fault)) throw fault;
-    say('Not booked: ' + fault.message + '. Nothing was sent; you may try again.');
+    tell(say('anyroom.notSent', { cause: fault.message }));
   } finally {
     isSending = false;
     byId('any-send').removeAttribute('aria-disabled');
@@ -53,17 +54,17 @@ export async function askAny(event) {
 async function askInTurn(title) {
   let gone = 0;
   for (const place of firstFree().slice(0, MOST)) {
-    say('Asking for ' + wordsOf(place) + (gone ? ', since ' + (gone === 1 ? 'another had' : gone + ' others had') + ' gone' : '') + '.', true);
+    tell(say('anyroom.asking', { where: wordsOf(place), count: gone }), true);
     const sheet = await askSheet(place.room, place.day);
     const isFree = place.start + place.length <= MIDNIGHT && !clashesOf(sheet.rows || [], place.start, place.start + place.length).length;
     const came = isFree ? await askOne(place, title) : 'gone';
     if (came !== 'gone') return;
     gone += 1;
   }
-  say(gone ? 'Not booked: all that was free had gone by then.' : 'Not booked: no room is free for that long.');
+  tell(say(gone ? 'anyroom.allGone' : 'anyroom.noneFree'));
 }
 
-const wordsOf = ({ room, day, start, length }) => labelOf(room) + ', ' + weekday(day) + ' ' + day + ', ' + hoursText(start, start + length);
+const wordsOf = ({ room, day, start, length }) => say('all.where', { room: labelOf(room), day: dayText(day), hours: hoursText(start, start + length) });
 
 /** One request: `booked`, `gone`, or `stop` where nothing more may be sent. */
 async function askOne(place, title) {
@@ -75,14 +76,14 @@ async function askOne(place, title) {
     if (reply.status !== 200) return refused(entry, reply);
     entry.first = entry.now = reply.json;
     keepMine();
-    if (reply.json.state === 'booked') return say(stateOf(reply.json)[0] + ': ' + wordsOf(place) + ' (request ' + reply.json.id + ').', true), 'booked';
+    const { id, state } = reply.json;
+    if (state === 'booked') return tell(say('all.outcome', { state: stateOf(reply.json)[0], where: wordsOf(place), id }), true), 'booked';
     if (await sendCancel(entry)) return 'gone';
-    return say('Request ' + reply.json.id + ' found no room, and may still get one: withdraw it, under My requests, before you ask again.'), 'stop';
+    return tell(say('anyroom.stillWaits', { id })), 'stop';
   } catch (fault) {
     if (!(fault instanceof Fault)) throw fault;
     if (!fault.sent) dropMine(entry);
-    say(fault.sent ? 'Perhaps booked: ' + wordsOf(place) + ' (' + fault.message + '). Look at the sheet before you ask again.'
-      : 'Not booked: ' + fault.message + '. Nothing was sent; you may try again.');
+    tell(say(fault.sent ? 'anyroom.perhapsBooked' : 'anyroom.notSent', { where: wordsOf(place), cause: fault.message }));
     return 'stop';
   } finally {
     replied();
@@ -90,8 +91,8 @@ async function askOne(place, title) {
 }
 
 function refused(entry, { status, json }) {
-  if (status === 503) return say('Perhaps booked (' + json.name + '): look at the sheet before you ask again.'), 'stop';
+  if (status === 503) return tell(say('anyroom.perhaps', { cause: json.name })), 'stop';
   dropMine(entry);
   if (json.refusal === 7) return 'gone';
-  return say('Not booked: ' + json.name + '.'), 'stop';
+  return tell(say('anyroom.notBooked', { cause: json.name })), 'stop';
 }

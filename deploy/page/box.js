@@ -1,9 +1,10 @@
 // The box of a booking of a sheet, whoever made it.
-import { byId, el, buttonOf, hoursText, minuteOf, timeOf, weekday } from './texts.js';
+import { byId, el, buttonOf, hoursText, minuteOf, timeOf, dayText } from './texts.js';
 import { askOutcome, clock, labelOf, sinceOf, stateKey } from './office.js';
 import { cancelButton, disarm, troubleOf } from './cancel.js';
 import { openMove } from './move.js';
 import { chipOf, stateOf } from './states.js';
+import { pieces, say } from './words.js';
 
 /** The booking whose box is open: its room, title, where it stood, and what the office said of it last. */
 let box = null;
@@ -29,15 +30,15 @@ export function showBox() {
   if (!box) return;
   const outcome = box.now, [word, kind, words] = stateOf(outcome), isBooked = Boolean(outcome) && outcome.state === 'booked';
   const day = isBooked ? outcome.day : box.day, hours = isBooked ? hoursText(minuteOf(outcome.start), minuteOf(outcome.stop)) : box.hours;
-  const since = outcome ? 'Seen so since ' + clock(sinceOf(stateKey(box.room, outcome))) + '.' : '';
+  const since = outcome ? ' ' + say('box.seen', { time: clock(sinceOf(stateKey(box.room, outcome))) }) : '';
   const held = document.activeElement && document.activeElement.dataset.box;
   byId('box').replaceChildren(el('h2', { id: 'box-title' }, box.title),
-    el('p', {}, el('b', {}, labelOf(box.room)), ', ' + weekday(day) + ' ' + day + ', ', el('b', { className: 'hours' }, hours)),
-    el('p', {}, chipOf(word, kind), ' ' + words), el('p', { className: 'hint' }, 'Request ' + box.id + '. ' + since),
+    el('p', {}, ...pieces('all.where', { room: el('b', {}, labelOf(box.room)), day: dayText(day), hours: el('b', { className: 'hours' }, hours) })),
+    el('p', {}, chipOf(word, kind), ' ' + words), el('p', { className: 'hint' }, say('box.request', { id: box.id }) + since),
     el('p', { className: 'error', role: 'alert' }, outcome ? troubleOf(box) : ''),
-    el('p', { className: 'buttons' }, isBooked ? cancelButton(box, 'Cancel this booking', (text, act) => boxButton(text, 'cancel', act)) : null,
-      isBooked ? boxButton('Change', 'move', () => change(outcome)) : null,
-      boxButton('Close', 'close', () => byId('box').close(), { autofocus: true })));
+    el('p', { className: 'buttons' }, isBooked ? cancelButton(box, say('box.cancel'), (text, act) => boxButton(text, 'cancel', act)) : null,
+      isBooked ? boxButton(say('all.change'), 'move', () => change(outcome)) : null,
+      boxButton(say('all.close'), 'close', () => byId('box').close(), { autofocus: true })));
   if (held) (byId('box').querySelector('[data-box=' + held + ']:not(:disabled)') || byId('box').querySelector('[data-box=close]')).focus();
 }
 

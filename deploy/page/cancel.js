@@ -1,15 +1,17 @@
 // How a booking is cancelled, and a request without a room withdrawn: both are a cancel of the request, which is pressed twice and sent once.
 import { Fault, ask, askMayBook, page } from './office.js';
 import { report } from './states.js';
+import { say } from './words.js';
 
 const REFUSALS = {
-  7: 'this office does not know the room',
-  9: 'this office does not know the request',
-  13: 'the greatest logical time is reached. Tell the operator',
-  14: 'this server’s numbers are used up. Tell the operator',
+  7: say('cancel.unknownRoom'),
+  9: say('cancel.unknownRequest'),
+  13: say('cancel.timeReached'),
+  14: say('cancel.numbersUsed'),
 };
-const CANCEL = { verb: 'Cancel', past: 'cancelled', armed: 'Really cancel?', doing: 'Cancelling' };
-const WITHDRAW = { verb: 'Withdraw', past: 'withdrawn', armed: 'Really withdraw?', doing: 'Withdrawing' };
+/** The sentences of both, by what they say. */
+const CANCEL = { armed: 'cancel.reallyCancel', doing: 'cancel.cancelling', perhaps: 'cancel.perhapsCancelled', not: 'cancel.notCancelled', notSent: 'cancel.cancelNotSent' };
+const WITHDRAW = { armed: 'cancel.reallyWithdraw', doing: 'cancel.withdrawing', perhaps: 'cancel.perhapsWithdrawn', not: 'cancel.notWithdrawn', notSent: 'cancel.withdrawNotSent' };
 
 /** The request whose cancel waits for a second press, and the one whose cancel is under way; each by room and id. */
 const cancel = { armed: '', sending: '', troubles: new Map() };
@@ -25,7 +27,7 @@ export function disarm() { cancel.armed = ''; }
 /** The button, or the question whether it is meant: the first press asks, the second one sends. `make` makes a button of words and an act. */
 export function cancelButton(booking, words, make) {
   const key = keyOf(booking), isArmed = cancel.armed === key, { armed, doing } = wordsOf(booking);
-  const button = make(cancel.sending === key ? doing : isArmed ? armed : words, () => press(booking));
+  const button = make(cancel.sending === key ? say(doing) : isArmed ? say(armed) : words, () => press(booking));
   button.classList.add('cancel');
   button.classList.toggle('armed', isArmed);
   button.disabled = cancel.sending !== '';
@@ -54,9 +56,8 @@ export async function sendCancel(booking) {
     return replied(booking, await ask('/cancel', JSON.stringify({ id: booking.now.id, room: booking.room })));
   } catch (fault) {
     if (!(fault instanceof Fault)) throw fault;
-    const { verb, past } = wordsOf(booking);
-    return trouble(booking, fault.sent ? 'Perhaps ' + past + ' (' + fault.message + '): its state here shows it.'
-      : 'Not ' + past + ': ' + fault.message + '. Nothing was sent; you may press ' + verb + ' again.');
+    const { perhaps, notSent } = wordsOf(booking);
+    return trouble(booking, say(fault.sent ? perhaps : notSent, { cause: fault.message }));
   } finally {
     cancel.sending = '';
     page.showLists();
@@ -69,13 +70,11 @@ function trouble(booking, words) {
 }
 
 function replied(booking, { status, json }) {
-  const { past } = wordsOf(booking), isWithdrawn = booking.now.state === 'logged';
-  if (status === 503) return trouble(booking, 'Perhaps ' + past + ' (' + json.name + '): its state here shows it.');
-  if (status !== 200) return trouble(booking, 'Not ' + past + ': ' + (REFUSALS[json.refusal] || json.name || 'it cannot be read') + '.');
-  if (json.state === 'cancels') {
-    return (isWithdrawn ? 'It had found room by now, and is cancelled: ' : 'Cancelled: ') + booking.title + ', by request ' + json.id + '; not final yet.';
-  }
-  if (!isWithdrawn) return 'There was no booking to cancel: ' + booking.title + '. If the request finds room later, it is cancelled then.';
-  booking.withdrawn = json.id;
-  return 'Withdrawn: ' + booking.title + ', by request ' + json.id + '. It gets no room any more.';
+  const { perhaps, not } = wordsOf(booking), isWithdrawn = booking.now.state === 'logged', { title } = booking, { id } = json;
+  if (status === 503) return trouble(booking, say(perhaps, { cause: json.name }));
+  if (status !== 200) return trouble(booking, say(not, { cause: REFUSALS[json.refusal] || json.name || say('fault.unreadable') }));
+  if (json.state === 'cancels') return say(isWithdrawn ? 'cancel.hadRoom' : 'cancel.cancelled', { title, id });
+  if (!isWithdrawn) return say('cancel.nothing', { title });
+  booking.withdrawn = id;
+  return say('cancel.withdrawn', { title, id });
 }

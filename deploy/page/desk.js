@@ -6,7 +6,7 @@
 // and movelist.js (changes), grid.js, newslist.js over news.js, and this file.
 // Each of the lower ones reaches the page as a whole by `page` of office.js.
 // Views beside the grid: month.js, coming.js, find.js over needs.js, with anyroom.js, and search.js; ahead.js says which of their sheets are asked for.
-import { byId, el, dayBeside, FIRST, isDay, LAST, MIDNIGHT, put, timeOf, weekday } from './texts.js';
+import { byId, el, dayBeside, FIRST, isDay, LAST, MIDNIGHT, put, timeOf, dayText } from './texts.js';
 import { Fault, askErrors, askOffice, askSheet, at, clock, labelOf, missed, momentOf, now, office, page, sheetOf, silence } from './office.js';
 import { closeBox } from './box.js';
 import { askMine, readMine, showMine, takeMine } from './mine.js';
@@ -28,9 +28,12 @@ import { showNeeds } from './needs.js';
 import { askAny, typedAny } from './anyroom.js';
 import { due } from './ahead.js';
 import { monthBeside, monthColumns, monthTitle, moveInMonth, showMonth } from './month.js';
-import { comingColumns, comingTitle, openComing, showComing } from './coming.js';
+import { comingColumns, comingTitle, openComing, showComing, titleOf } from './coming.js';
 import { showSearch } from './search.js';
 import { keepFiles } from './offline.js';
+import { fillWords } from './filling.js';
+import { capital, say } from './words.js';
+import { startLanguageMenu } from './languagemenu.js';
 import { printDoor } from './print.js';
 import { columns, focusGrid, keepCursor, moveCursor, showGrid, watchWidth, weekShown } from './grid.js';
 
@@ -48,9 +51,9 @@ function addressOf({ day, view, room }) {
 function readAddress() {
   const [day, view, room] = location.hash.slice(1).split('/'), words = [];
   const isRoom = office.rooms.some(each => each.name === room);
-  if (day && !isDay(day)) words.push('There is no day ' + day + '; this is today.');
-  if (view && !VIEWS.includes(view)) words.push('There is no view ' + view + '.');
-  if (room && office.rooms.length && !isRoom) words.push('There is no room ' + room + '.');
+  if (day && !isDay(day)) words.push(say('desk.noDay', { day }));
+  if (view && !VIEWS.includes(view)) words.push(say('desk.noView', { view }));
+  if (room && office.rooms.length && !isRoom) words.push(say('desk.noRoom', { room }));
   at.day = isDay(day) ? day : now().day;
   at.view = VIEWS.includes(view) ? view : 'day';
   at.room = isRoom || !office.rooms.length ? room || '' : office.rooms[0].name;
@@ -138,10 +141,9 @@ function show() {
 }
 
 function showHead() {
-  const week = weekShown();
-  byId('sheet-title').textContent = at.view === 'week' ? labelOf(at.room) + ', ' + week[0] + ' to ' + week.at(-1)
-    : at.view === 'month' ? monthTitle() : at.view === 'coming' ? comingTitle() : at.view === 'search' ? 'Search'
-      : (at.view === 'find' ? 'Free rooms, ' : '') + weekday(at.day) + ' ' + at.day;
+  const day = dayText(at.day), titles = { day: capital(day), week: titleOf(weekShown()), month: monthTitle(), coming: comingTitle(),
+    find: say('desk.find', { day }), search: say('desk.search') };
+  byId('sheet-title').textContent = titles[at.view];
   byId('day').value = at.day;
   byId('at-room').value = at.room;
   byId('before').disabled = at.day === FIRST;
@@ -149,24 +151,26 @@ function showHead() {
   byId('door-link').href = 'door.html#' + at.room;
   byId('calendar-link').href = at.room + '.ics';
   for (const button of byId('views').children) button.setAttribute('aria-pressed', button.dataset.view === at.view);
-  byId('zone').textContent = 'Times are the wall clock of the rooms' + (office.zone ? ' (' + office.zone + ').' : '.') +
-    (office.zoneTrouble ? ' This browser does not know the zone ' + office.zoneTrouble + '; its own clock says what is today.' : '');
+  byId('zone').textContent = [office.zone ? say('desk.timesOfZone', { zone: office.zone }) : say('desk.times'),
+    office.zoneTrouble ? say('desk.zoneUnknown', { zone: office.zoneTrouble }) : ''].filter(words => words).join(' ');
 }
 
 /** Since when nothing was heard. One that is surely no more than the pause between two stretches of serving isn't reported. */
 function showAlarm(read, isRead) {
   const isPause = silence.failures === 1 && !silence.cause.sent && isRead && !read.some(sheet => sheet.isKept);
   const isLost = silence.failures > 0 && !isPause;
-  const at = new Date(Math.min(...read.map(sheet => sheet.at))), as = !read.length ? '' : read.some(sheet => sheet.isKept) ? momentOf(at) : clock(at);
+  const at = new Date(Math.min(...read.map(sheet => sheet.at))), time = !read.length ? '' : read.some(sheet => sheet.isKept) ? momentOf(at) : clock(at);
   document.body.classList.toggle('old', isLost);
   byId('alarm').hidden = !isLost;
   if (isLost) reportNoMore();
-  put({ alarm: !isLost ? '' : 'No connection to the office since ' + clock(silence.since) + ' (' + silence.cause.message + '). ' +
-    (isRead ? 'What is shown is old, of ' + as + '.' : 'There is no sheet to show.'),
-  fresh: !isRead ? '' : (isLost ? 'Old: ' : '') + 'as of ' + as + (isLost ? '; asking on.' : '; asks again every half minute.') });
+  const lost = isLost ? say('desk.lost', { time: clock(silence.since), cause: silence.cause.message }) : '';
+  put({ alarm: lost && lost + ' ' + (isRead ? say('desk.old', { time }) : say('desk.noSheet')),
+    fresh: isRead ? say(isLost ? 'desk.stale' : 'desk.fresh', { time }) : '' });
 }
 
 function start() {
+  fillWords();
+  startLanguageMenu(byId('language'));
   Object.assign(page, { show, showLists() { showMine(); showNews(); showErrors(); }, round, goTo });
   dropOldSheets();
   readMine();

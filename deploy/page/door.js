@@ -9,15 +9,17 @@ import { forgetHere, readHere } from './checkin.js';
 import { doorOf } from './tablet.js';
 import { qrDrawing } from './qr.js';
 import { keepFiles } from './offline.js';
+import { fillWords } from './filling.js';
+import { say } from './words.js';
 
-const EVERY = 30000, TICK = 1000;
+const EVERY = 30000, TICK = 1000, SIZES = [1, 0.92, 0.85, 0.78, 0.71, 0.64, 0.57, 0.5];
 /** The sheets of today and tomorrow as they were read last: `days` by day, and when. */
 let news = { days: {}, at: null };
 let timer = 0;
 /** What the office's service said of itself last: status.json. */
 let status = null;
-/** The address that the code shows. */
-let coded = '';
+/** The address that the code shows, and what was made to fit the screen last. */
+let coded = '', fitted = '';
 
 const roomOf = () => location.hash.slice(1);
 const keep = () => 'rooms.door.' + roomOf();
@@ -81,18 +83,31 @@ function show() {
   document.body.classList.toggle('acts', !byId('acts').hidden);
   put({ said: saidNow() });
   showCode(room, day);
-  put({ room: document.title, news: !isOld ? time.slice(0, 5) : at ? 'No connection. Last news of ' + at : 'No connection, and no news yet' });
+  put({ room: document.title, news: !isOld ? time.slice(0, 5) : at ? say('door.oldNews', { time: at }) : say('door.noNews') });
+  fit(room);
+}
+
+/** All but a list of rooms is as large as the screen has room for, however long its sentences are. */
+function fit(room) {
+  const page = document.documentElement, what = [innerWidth, innerHeight, document.body.className, document.body.textContent].join(' ');
+  if (what === fitted) return;
+  fitted = what;
+  for (const size of room ? SIZES : [1]) {
+    document.body.style.setProperty('--fit', size);
+    if (page.scrollHeight <= innerHeight && page.scrollWidth <= innerWidth) return;
+  }
 }
 
 function showState({ present, next, until }, day) {
-  const tomorrow = dayBeside(day, 1), first = (news.days[tomorrow] || [])[0];
-  put({ word: present ? 'Taken' : 'Free', until: until === MIDNIGHT && !present ? 'for the rest of the day' : 'until ' + timeOf(until),
-    title: present ? present.title : '', next: next ? 'Next: ' + hoursText(next.start, next.stop) + ' ' + next.title
-      : first ? 'Next: ' + weekday(tomorrow) + ' ' + hoursText(first.start, first.stop) + ' ' + first.title : 'Nothing else today' });
+  const tomorrow = dayBeside(day, 1), first = (news.days[tomorrow] || [])[0], word = present ? say('door.taken') : say('door.free');
+  byId('word').style.setProperty('--letters', word.length);
+  put({ word, until: until === MIDNIGHT && !present ? say('door.restOfDay') : say('door.until', { time: timeOf(until) }),
+    title: present ? present.title : '', next: next ? say('door.next', { hours: hoursText(next.start, next.stop), title: next.title })
+      : first ? say('door.nextDay', { weekday: weekday(tomorrow), hours: hoursText(first.start, first.stop), title: first.title }) : say('door.nothingElse') });
 }
 
 function showUnknown(rows) {
-  put({ word: '?', until: rows === null ? 'This office does not know the room.' : 'Nothing is known of today yet.', title: '', next: '' });
+  put({ word: '?', until: rows === null ? say('all.unknownRoom') : say('door.nothingKnown'), title: '', next: '' });
 }
 
 /** A code that opens the page at this room and day. */
@@ -100,12 +115,12 @@ function showCode(room, day) {
   const address = room ? location.origin + '/#' + day + '/day/' + room : '';
   if (address === coded) return;
   coded = address;
-  byId('code').replaceChildren(...[address && qrDrawing(address, 'A code that opens the page of this room: ' + address)].filter(each => each));
+  byId('code').replaceChildren(...[address && qrDrawing(address, say('door.code', { address }))].filter(each => each));
 }
 
 /** Without a room in the address: which there are. */
 function showRooms() {
-  put({ word: '', until: 'Which room?', title: '' });
+  put({ word: '', until: say('door.whichRoom'), title: '' });
   if (byId('next').children.length === office.rooms.length) return;
   byId('next').replaceChildren(...office.rooms.map(room => el('a', { href: '#' + room.name }, labelOf(room.name))));
 }
@@ -122,6 +137,7 @@ function begin() {
   round();
 }
 
+fillWords();
 Object.assign(page, { show, round });
 window.addEventListener('hashchange', begin);
 document.addEventListener('visibilitychange', () => { if (!document.hidden) { stayOn(); round(); } });

@@ -1,8 +1,11 @@
 // The error log of a room in a desk's words: the requests without a room, which may be withdrawn while they aren't final, and the cancels
 // that found no booking.
-import { byId, el, buttonOf, readErrors, renew } from './texts.js';
+import { byId, dateText, el, buttonOf, readErrors, renew } from './texts.js';
 import { cancelButton, troubleOf } from './cancel.js';
+import { say } from './words.js';
 
+/** What the office says where there are none. */
+const NONE = '(no errors)';
 let shown = { room: '', lines: [] };
 const bookings = new Map();   // by room and id: what may be withdrawn
 
@@ -14,14 +17,16 @@ export function showErrors(read = shown) {
 }
 
 function itemOf(line, withdrawn) {
-  const words = line.replace(/^([CT]) (\d+-\d+) cancel (\d+-\d+)$/, '$1 $2, a cancel that found no booking of $3')
-    .replace(/^C /, '').replace(/^T (.*)$/, '$1 (not final yet)');
-  const [, id, title] = /^T (\d+-\d+) \d{4}-\S+ \S+ (.*)$/.exec(line) || [], by = withdrawn.get(id);
-  if (!id || by) return el('li', {}, words + (by ? ', withdrawn by ' + by : ''));
+  const [, mark, id, target, day, hours, title] = /^([CT]) (\d+-\d+) (?:cancel (\d+-\d+)$|(\d{4}-\S+) (\S+) (.*))/.exec(line) || [], isFinal = mark === 'C';
+  if (!id) return el('li', {}, line === NONE ? say('errorlist.none') : line);
+  if (target) return el('li', {}, say(isFinal ? 'errorlist.cancel' : 'errorlist.cancelOpen', { id, target }));
+  const request = { id, date: dateText(day), hours, title }, withdrawnBy = by => say('errorlist.withdrawn', { ...request, by });
+  if (isFinal) return el('li', {}, say('errorlist.request', request));
+  if (withdrawn.has(id)) return el('li', {}, withdrawnBy(withdrawn.get(id)));
   const name = shown.room + ' ' + id;
   if (!bookings.has(name)) bookings.set(name, { room: shown.room, title, now: { id, state: 'logged', mark: 'T' } });
-  const booking = bookings.get(name), withdraw = (label, act) => buttonOf(label, act, { 'aria-label': label + ': ' + title });
-  return el('li', {}, words + (booking.withdrawn ? ', withdrawn by ' + booking.withdrawn : ''),
-    booking.withdrawn ? null : el('span', { className: 'buttons' }, cancelButton(booking, 'Withdraw', withdraw)),
+  const booking = bookings.get(name), withdraw = (words, act) => buttonOf(words, act, { 'aria-label': say('all.labelled', { words, title }) });
+  return el('li', {}, booking.withdrawn ? withdrawnBy(booking.withdrawn) : say('errorlist.requestOpen', request),
+    booking.withdrawn ? null : el('span', { className: 'buttons' }, cancelButton(booking, say('all.withdraw'), withdraw)),
     el('span', { className: 'error' }, troubleOf(booking)));
 }

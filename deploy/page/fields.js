@@ -5,8 +5,9 @@ const FIELDS = { room: 'room', day: 'wish-day', start: 'wish-start', length: 'le
 
 export function complain(field, ...words) {
   byId(field + '-error').replaceChildren(...words);
-  byId(FIELDS[field]).setAttribute('aria-invalid', 'true');
-  byId(FIELDS[field]).focus();
+  const place = byId(FIELDS[field] || field);
+  place.setAttribute('aria-invalid', 'true');
+  place.focus();
 }
 
 export function calm() {

@@ -1,15 +1,26 @@
 // What the rooms were used for, of the office's figures.csv: hours booked of hours open, by room, by day of the week and by month, with what
 // found no room and what merges did. The bars are drawn here; nothing comes from anywhere else.
-import { byId, el } from './texts.js';
+import { byId, el, noonOf, weekday, weekOf } from './texts.js';
 import { rowsOf } from './table.js';
+import { language, locale } from './language.js';
+import { fillWords } from './filling.js';
+import { capital, numberText, say } from './words.js';
 
 const COUNTS = ['open', 'booked', 'outside', 'bookings', 'no_room', 'moved', 'lost'];
-const HEADS = ['Booked', 'Open', 'Part', '', 'Outside the open hours', 'Bookings', 'Without a room', 'Moved by a merge', 'Lost by a merge'];
-const WEEKDAYS = ['Monday', 'Tuesday', 'Wednesday', 'Thursday', 'Friday', 'Saturday', 'Sunday'];
+const HEADS = [say('figures.booked'), say('figures.open'), say('figures.part'), '', say('figures.outside'), say('figures.bookings'), say('figures.noRoom'),
+  say('figures.moved'), say('figures.lost')];
+const FIRST_HEADS = { room: say('figures.room'), weekday: say('figures.day'), month: say('figures.month') };
+const TENTHS = { minimumFractionDigits: 1, maximumFractionDigits: 1 };
+/** The days of a week in its order: what each is called, by its name in the file, which is English. */
+const WEEKDAYS = new Map(weekOf('1995-12-18').map(day => [noonOf(day).toLocaleDateString('en-GB', { weekday: 'long', timeZone: 'UTC' }), capital(weekday(day))]));
 let lines = [];
 
-const hours = minutes => (Math.round(minutes / 6) / 10).toFixed(1) + ' h';
+const hours = minutes => say('figures.hours', { hours: numberText(Math.round(minutes / 6) / 10, TENTHS) });
 const distinct = values => [...new Set(values)];
+
+/** A month as it is written: 2027-04 in English, else with its name. */
+const monthText = month => language === 'en' ? month
+  : capital(noonOf(month + '-15').toLocaleDateString(locale, { month: 'long', year: 'numeric', timeZone: 'UTC' }));
 
 function sumOf(chosen) {
   return Object.fromEntries(COUNTS.map(count => [count, chosen.reduce((sum, line) => sum + (Number(line[count]) || 0), 0)]));
@@ -30,17 +41,17 @@ function barOf(part) {
 }
 
 function lineOf(head, sum) {
-  const part = sum.open ? sum.booked / sum.open : 0, percent = sum.open ? Math.round(100 * part) + ' %' : '–';
+  const part = sum.open ? sum.booked / sum.open : 0, percent = sum.open ? say('figures.percent', { percent: Math.round(100 * part) }) : '–';
   const cells = [hours(sum.booked), hours(sum.open), percent, barOf(part), hours(sum.outside), sum.bookings, sum.no_room, sum.moved, sum.lost];
-  return el('tr', {}, el('th', { scope: 'row' }, head), ...cells.map(cell => el('td', {}, typeof cell === 'number' ? String(cell) : cell)));
+  return el('tr', {}, el('th', { scope: 'row' }, head), ...cells.map(cell => el('td', {}, typeof cell === 'number' ? numberText(cell) : cell)));
 }
 
 /** One table: a line for each value of a column, and what it is called. */
 function tableOf(caption, chosen, column, values, nameOf = value => value) {
   const heads = HEADS.map(head => head ? el('th', { scope: 'col' }, head) : el('td', {}));
   const body = values.map(value => lineOf(nameOf(value), sumOf(chosen.filter(line => line[column] === value))));
-  const table = el('table', {}, el('caption', {}, caption), el('thead', {}, el('tr', {}, el('th', { scope: 'col' }, column === 'room' ? 'Room' : column === 'month' ? 'Month' : 'Day'), ...heads)),
-    el('tbody', {}, ...body, lineOf('All', sumOf(chosen))));
+  const table = el('table', {}, el('caption', {}, caption), el('thead', {}, el('tr', {}, el('th', { scope: 'col' }, FIRST_HEADS[column]), ...heads)),
+    el('tbody', {}, ...body, lineOf(say('figures.all'), sumOf(chosen))));
   return el('div', { className: 'wide', tabIndex: 0, role: 'region', 'aria-label': caption }, table);
 }
 
@@ -48,9 +59,10 @@ function show() {
   const from = byId('from').value, to = byId('to').value, room = byId('room').value;
   const chosen = lines.filter(line => from <= line.month && line.month <= to && (room === '' || line.room === room));
   const labels = new Map(lines.map(line => [line.room, line.label]));
-  byId('tables').replaceChildren(...(chosen.length ? [tableOf('By room', chosen, 'room', distinct(chosen.map(line => line.room)), value => labels.get(value)),
-    tableOf('By day of the week', chosen, 'weekday', WEEKDAYS), tableOf('By month', chosen, 'month', distinct(chosen.map(line => line.month)).sort())]
-    : [el('p', {}, 'There is nothing of these months.')]));
+  byId('tables').replaceChildren(...(chosen.length ? [tableOf(say('figures.byRoom'), chosen, 'room', distinct(chosen.map(line => line.room)), value => labels.get(value)),
+    tableOf(say('figures.byWeekday'), chosen, 'weekday', [...WEEKDAYS.keys()], value => WEEKDAYS.get(value)),
+    tableOf(say('figures.byMonth'), chosen, 'month', distinct(chosen.map(line => line.month)).sort(), monthText)]
+    : [el('p', {}, say('figures.nothing'))]));
 }
 
 function fill(id, options, chosen) {
@@ -60,16 +72,17 @@ function fill(id, options, chosen) {
 }
 
 async function start() {
+  fillWords();
   const reply = await fetch(new URL('/figures.csv', location.origin), { cache: 'no-store' }).catch(() => null);
   if (!reply || reply.status !== 200) {
-    byId('trouble').textContent = 'There are no figures yet' + (reply ? '' : ', or no connection') + ': the office’s service writes them, some minutes after it began.';
+    byId('trouble').textContent = say(reply ? 'figures.none' : 'figures.noneOrLost');
     return;
   }
   lines = rowsOf(await reply.text());
   const months = distinct(lines.map(line => line.month)).sort(), rooms = distinct(lines.map(line => line.room));
-  fill('from', months.map(month => [month, month]), months[0]);
-  fill('to', months.map(month => [month, month]), months.at(-1));
-  fill('room', [['', 'All rooms'], ...rooms.map(room => [room, lines.find(line => line.room === room).label])], '');
+  fill('from', months.map(month => [month, monthText(month)]), months[0]);
+  fill('to', months.map(month => [month, monthText(month)]), months.at(-1));
+  fill('room', [['', say('figures.allRooms')], ...rooms.map(room => [room, lines.find(line => line.room === room).label])], '');
   show();
 }
 

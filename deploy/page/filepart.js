@@ -3,10 +3,11 @@ import { byId, el, put } from './texts.js';
 import { labelOf, office } from './office.js';
 import { askGroups } from './groups.js';
 import { itemsOfFile } from './importing.js';
+import { say } from './words.js';
 
 export function fillFile() {
   const chosen = byId('file-room').value;
-  byId('file-room').replaceChildren(el('option', { value: '' }, 'None'), ...office.rooms.map(room => el('option', { value: room.name }, labelOf(room.name))));
+  byId('file-room').replaceChildren(el('option', { value: '' }, say('filepart.none')), ...office.rooms.map(room => el('option', { value: room.name }, labelOf(room.name))));
   byId('file-room').value = chosen;
 }
 
@@ -18,7 +19,7 @@ export function startFile(lookAtPlan) {
     if (!file) return;
     const bytes = await file.arrayBuffer().then(buffer => new Uint8Array(buffer), () => null);
     await askGroups();
-    const { items, trouble } = bytes ? itemsOfFile(bytes, byId('file-room').value) : { items: [], trouble: 'The file can’t be read.' };
+    const { items, trouble } = bytes ? itemsOfFile(bytes, byId('file-room').value) : { items: [], trouble: say('filepart.unreadable') };
     put({ 'file-error': trouble });
     if (items.length) await lookAtPlan(file.name, items);
   };

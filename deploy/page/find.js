@@ -1,8 +1,9 @@
 // A free room: each room that has what is needed with the stretches of a day, or of several, that are free for long enough.
-import { byId, dayBeside, el, buttonOf, freeOf, hoursText, LAST, minuteOf, renew, weekday } from './texts.js';
+import { byId, dayBeside, el, buttonOf, freeOf, hoursText, LAST, minuteOf, renew, dateText, dayText } from './texts.js';
 import { at, labelOf, now, office, page, sheetOf } from './office.js';
 import { hasWords, roomsThatFit, seatsOf } from './needs.js';
 import { takeOffer } from './wish.js';
+import { capital, say } from './words.js';
 
 /** The days that are looked at, from the one that the address names on. */
 function daysFound() {
@@ -26,19 +27,19 @@ function freeFor(sheet, { length, from, to }) {
 export function showFound() {
   const wanted = asked(), rooms = roomsThatFit(), days = daysFound();
   byId('any').hidden = !wanted;
-  if (!wanted) return renew(byId('found'), el('li', { className: 'error' }, 'A length in minutes, and two times of day, please.'));
-  if (!rooms.length) return renew(byId('found'), el('li', { className: 'error' }, 'No room has all of that.'));
-  renew(byId('found'), ...days.flatMap(day => [days.length > 1 ? el('li', { className: 'day' }, weekday(day) + ' ' + day) : '',
+  if (!wanted) return renew(byId('found'), el('li', { className: 'error' }, say('find.ask')));
+  if (!rooms.length) return renew(byId('found'), el('li', { className: 'error' }, say('find.none')));
+  renew(byId('found'), ...days.flatMap(day => [days.length > 1 ? el('li', { className: 'day' }, capital(dayText(day))) : '',
     ...rooms.map(room => foundItem(room, day, wanted))].filter(each => each)));
 }
 
 function foundItem(room, day, wanted) {
   const { name } = room, sheet = sheetOf(name, day), has = hasWords(room);
   const head = [el('b', {}, labelOf(name)), has ? el('span', { className: 'hint' }, ' ' + has) : ''];
-  if (!sheet || !sheet.rows) return el('li', {}, ...head, ' ', sheet ? 'This office does not know the room.' : 'Not read yet.');
+  if (!sheet || !sheet.rows) return el('li', {}, ...head, ' ', sheet ? say('all.unknownRoom') : say('all.notRead'));
   const free = freeFor(sheet, wanted);
   return el('li', {}, ...head, el('span', { className: 'buttons' }, ...free.map(each => foundButton(name, day, each, wanted.length))),
-    free.length ? null : el('span', { className: 'hint' }, 'Not free for that long.'));
+    free.length ? null : el('span', { className: 'hint' }, say('find.notFree')));
 }
 
 function foundButton(room, day, free, length) {
@@ -47,7 +48,8 @@ function foundButton(room, day, free, length) {
     byId('length').value = length;
     page.show();
   };
-  return buttonOf(hoursText(free.start, free.stop), take, { 'aria-label': labelOf(room) + ' is free ' + day + ' ' + hoursText(free.start, free.stop) + ': ask for it' });
+  const hours = hoursText(free.start, free.stop);
+  return buttonOf(hours, take, { 'aria-label': say('find.take', { room: labelOf(room), day: dateText(day), hours }) });
 }
 
 /** Where a meeting finds room, the earliest first, and of rooms that are free at once the one with fewest seats; nothing that is past. */

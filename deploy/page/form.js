@@ -1,5 +1,5 @@
 // The request form: what is asked before a wish is sent, and what comes back.
-import { byId, buttonOf, hoursText, isDay, isPlain, plainOf, weekday } from './texts.js';
+import { byId, buttonOf, hoursText, isDay, isPlain, plainOf, dateText, dayText } from './texts.js';
 import { Fault, ask, askMayBook, askSheet, labelOf, now, page } from './office.js';
 import { calm, complain } from './fields.js';
 import { addMine, dropMine, keepMine, replied } from './mine.js';
@@ -8,18 +8,19 @@ import { showOffers, standsFor, withdrawFirsts } from './offers.js';
 import { sure } from './question.js';
 import { report, stateOf } from './states.js';
 import { choices, clashWords, isWished, lengthOf, LONGEST, sameSlot, slots, slotText, startOver, takeOffer } from './wish.js';
+import { say } from './words.js';
 
-const LENGTH = 'A length is a whole number of minutes from 1 to 1440, and at each choice the meeting ends at midnight at the latest.';
+const LENGTH = say('form.length');
 export const REFUSALS = {
-  1: ['day', 'That is no day from 1990 to 2099.'],
-  2: ['start', 'A start is a time from 00:00 to 23:59.'],
+  1: ['day', say('form.day')],
+  2: ['start', say('form.start')],
   3: ['length', LENGTH],
-  4: ['room', 'That is not the name of a room.'],
-  5: ['title', 'A title has 1 to 60 plain letters, digits and signs.'],
-  6: ['choices', 'At most 16 alternatives.'],
-  7: ['room', 'This office does not know the room: the operator has to add it, or exchange with an office that has it.'],
-  13: ['send', 'The greatest logical time is reached: this office takes no more requests. Tell the operator.'],
-  14: ['send', 'This server’s numbers are used up: the office needs a new replica. Tell the operator.'],
+  4: ['room', say('form.room')],
+  5: ['title', say('all.titleRule', { most: LONGEST })],
+  6: ['choices', say('form.choices')],
+  7: ['room', say('form.unknownRoom')],
+  13: ['send', say('form.timeReached')],
+  14: ['send', say('form.numbersUsed')],
 };
 
 let isSending = false;
@@ -30,16 +31,16 @@ function readForm() {
   byId('title').value = title;
   if (!length) return complain('length', LENGTH), null;
   if (!isPlain(title)) return offerPlain(plainOf(title)), null;
-  if (title.length > LONGEST) return complain('title', REFUSALS[5][1] + ' This one has ' + title.length + '.'), null;
+  if (title.length > LONGEST) return complain('title', REFUSALS[5][1] + ' ' + say('form.titleHas', { number: title.length })), null;
   if (!isMailWell()) return null;
   return { ...slots(), length, title };
 }
 
 /** Titles have plain letters alone: the same title in these is offered. */
 function offerPlain(plain) {
-  const words = 'Only plain letters can be kept, no accents and no other scripts. ';
+  const words = say('form.plainOnly');
   if (!plain || plain.length > LONGEST) return complain('title', words);
-  complain('title', words, buttonOf('Take “' + plain + '”', () => { byId('title').value = plain; calm(); byId('title').focus(); }));
+  complain('title', words, ' ', buttonOf(say('all.takePlain', { title: plain }), () => { byId('title').value = plain; calm(); byId('title').focus(); }));
 }
 
 /** What would be asked of a desk before it is sent: a day that is past, and hours that are taken by what the sheets show. */
@@ -47,13 +48,14 @@ async function isMeant() {
   const all = choices(), [first] = all, clock = now();
   if (!isWished()) return true;
   const isPast = first.day < clock.day || (first.day === clock.day && first.to <= clock.minute);
-  if (isPast && !await sure(first.day + ', ' + hoursText(first.from, first.to) + ' is past. Ask for it all the same?', 'Ask all the same', 'No')) return false;
+  const when = { date: dateText(first.day), hours: hoursText(first.from, first.to) };
+  if (isPast && !await sure(say('form.past', when), say('form.askAllTheSame'), say('all.no'))) return false;
   for (const day of new Set(all.map(choice => choice.day))) {
     if (isDay(day)) await askSheet(first.room, day).catch(unlessFault);
   }
   page.show();
   if (all.some(choice => clashWords(choice) === '')) return true;
-  return sure(clashWords(first) + ' Ask all the same?', 'Ask all the same', 'No');
+  return sure(clashWords(first) + ' ' + say('form.reallyAsk'), say('form.askAllTheSame'), say('all.no'));
 }
 
 function unlessFault(fault) {
@@ -87,7 +89,7 @@ async function send(asked) {
   const { room, title, day, start, length } = asked;
   const entry = { room, title, wish: { day, start }, length, sent: new Date().toISOString() + Math.random(), now: null };
   try {
-    report('Sending. Where the browser asks for a password, nothing is sent before it has one.', true);
+    report(say('form.sending'), true);
     await askMayBook();
     report('');
     addMine(entry);
@@ -99,7 +101,7 @@ async function send(asked) {
     report('');
     if (fault.sent) return perhaps(fault.message);
     dropMine(entry);
-    complain('send', 'Not booked: ' + fault.message + '. Nothing was sent; you may press Request again.');
+    complain('send', say('form.notSent', { cause: fault.message }));
   } finally {
     replied();
   }
@@ -111,18 +113,18 @@ async function accepted(entry, asked, outcome) {
   giveAddress(outcome);
   if (outcome.state !== 'booked') return noRoom(entry, asked);
   const place = (asked.alternatives || []).findIndex(slot => sameSlot(slot, outcome));
-  const words = stateOf(outcome)[0] + ': ' + labelOf(asked.room) + ', ' + weekday(outcome.day) + ' ' + outcome.day + ', ' +
-    outcome.start + '–' + outcome.stop + ' (request ' + outcome.id + ').';
+  const where = say('all.where', { room: labelOf(asked.room), day: dayText(outcome.day), hours: outcome.start + '–' + outcome.stop });
+  const words = say('all.outcome', { state: stateOf(outcome)[0], where, id: outcome.id });
   startOver();
-  report(words + (place < 0 ? '' : ' That is alternative ' + (place + 1) + ': ' + slotText(asked) + ' was taken.'), true);
+  report(place < 0 ? words : words + ' ' + say('form.alternative', { number: place + 1, slot: slotText(asked) }), true);
   await withdrawFirsts(asked.title);
 }
 
 /** The form stays as it was; what is free near the wish is offered, in this room and in the others. */
 async function noRoom(entry, asked) {
-  report('No room: ' + labelOf(asked.room) + ' is taken at ' + slotText(asked) + (asked.alternatives ? ' and at each alternative' : '') + '.' +
-    (entry.now.mark === 'T' ? ' The request may still get one until the offices have met. If you take an offer instead, it is withdrawn.' : ''), false);
-  if (entry.now.mark === 'T') standsFor(entry);
+  const isWaiting = entry.now.mark === 'T', words = say(asked.alternatives ? 'form.allTaken' : 'form.taken', { room: labelOf(asked.room), slot: slotText(asked) });
+  report(isWaiting ? words + ' ' + say('form.mayGet') : words, false);
+  if (isWaiting) standsFor(entry);
   byId('request').classList.add('refused');
   byId('wish-start').setAttribute('aria-invalid', 'true');
   await showOffers(byId('offers'), asked, takeOffer);
@@ -132,10 +134,10 @@ async function noRoom(entry, asked) {
 function refused(entry, reply) {
   if (reply.status === 503) return perhaps(reply.json.name);
   dropMine(entry);
-  const [field, words] = REFUSALS[reply.json.refusal] || ['send', 'Refused: ' + (reply.json.name || 'the request cannot be read') + '.'];
+  const [field, words] = REFUSALS[reply.json.refusal] || ['send', say('form.refused', { cause: reply.json.name || say('form.unreadable') })];
   complain(field, words);
 }
 
 function perhaps(cause) {
-  complain('send', 'Perhaps booked (' + cause + '): look at the sheet before you ask again. It is not sent again by itself.');
+  complain('send', say('form.perhaps', { cause }));
 }

@@ -1,10 +1,11 @@
 // The sheets as columns to scale: the day of all rooms, the week of one, or, on a narrow screen, the day of one. A free quarter
 // hour and a booking are buttons; the wish and its alternatives are drawn over them with their whole length.
-import { byId, dayBeside, el, clashesOf, freeOf, hoursText, MIDNIGHT, timeOf, weekday, weekOf } from './texts.js';
+import { byId, dayBeside, el, clashesOf, freeOf, hoursText, MIDNIGHT, timeOf, weekday, weekOf, dateText, dayText } from './texts.js';
 import { at, labelOf, now, office, sheetOf } from './office.js';
 import { choices, chooseSlot } from './wish.js';
 import { openBox } from './box.js';
 import { stateOf } from './states.js';
+import { capital, say } from './words.js';
 
 const QUARTER = 15, HOUR = 60, FEW = 2;
 const narrow = matchMedia('(max-width: 600px)');
@@ -12,14 +13,14 @@ let cursor = '';        // the key of the button that Tab reaches
 let scrolledFor = '';   // what was scrolled to its first hour already
 let drawn = '';         // what the grid shows
 
-/** The days of the week that is shown: from Monday on, or, on a narrow screen, which has room for few of them, from the chosen day on. */
+/** The days of the week that is shown: a whole week, or, on a narrow screen, which has room for few of them, from the chosen day on. */
 export function weekShown() {
   return narrow.matches ? [...new Set([0, 1, 2, 3, 4, 5, 6].map(step => dayBeside(at.day, step)))] : weekOf(at.day);
 }
 
 /** What is shown beside one another: each column is a room on a day. */
 export function columns() {
-  if (at.view === 'week') return weekShown().map(day => ({ room: at.room, day, label: weekday(day) + ' ' + day, lines: [weekday(day), day] }));
+  if (at.view === 'week') return weekShown().map(day => ({ room: at.room, day, label: dayText(day), lines: [capital(weekday(day)), dateText(day)] }));
   const names = narrow.matches && office.rooms.length > FEW ? [at.room] : office.rooms.map(room => room.name);
   return names.map(room => ({ room, day: at.day, label: labelOf(room), lines: [labelOf(room)] }));
 }
@@ -52,17 +53,17 @@ function bookingOf(column, row) {
   const isWished = choices().some(choice => isOf(choice, column) && clashesOf([row], choice.from, choice.to).length > 0);
   const outcome = { ...row, state: 'booked', day: column.day }, [word, kind] = stateOf(outcome), hours = hoursText(row.start, row.stop);
   const cell = cellOf('booking ' + kind + (row.stop - row.start < 30 ? ' short' : '') + (isWished ? ' wished' : ''), column, row.start, row.stop,
-    { 'aria-label': column.label + ', ' + hours + ', ' + row.title + ', ' + word, 'aria-haspopup': 'dialog' },
-    el('span', { className: 'words' }, el('b', {}, row.title), ' ', el('span', {}, hours + (kind === 'sure' ? '' : ', not final'))));
+    { 'aria-label': say('grid.booking', { column: column.label, hours, title: row.title, state: word }), 'aria-haspopup': 'dialog' },
+    el('span', { className: 'words' }, el('b', {}, row.title), ' ', el('span', {}, kind === 'sure' ? hours : say('grid.notFinal', { hours }))));
   cell.addEventListener('click', () => openBox(column.room, column.day, row));
   return cell;
 }
 
 function slotOf(column, start, stop) {
-  const own = choices().find(choice => isOf(choice, column) && choice.from === start);
-  const words = own ? 'your ' + own.words.toLowerCase() : 'free';
+  const own = choices().find(choice => isOf(choice, column) && choice.from === start), number = own && own.number;
+  const key = !own ? 'grid.free' : number ? 'grid.yourAlternative' : 'grid.yourWish';
   const cell = cellOf('slot' + (own ? ' chosen' : ''), column, start, stop,
-    { 'aria-label': column.label + ', ' + timeOf(start) + ' ' + words, 'aria-pressed': Boolean(own) }, timeOf(start));
+    { 'aria-label': say(key, { column: column.label, time: timeOf(start), number }), 'aria-pressed': Boolean(own) }, timeOf(start));
   cell.addEventListener('click', () => { cursor = cell.dataset.key; chooseSlot(column.room, column.day, start); });
   return cell;
 }
@@ -80,7 +81,8 @@ function slotsOf(column, rows, from, to) {
 
 /** A choice with its whole length, and in red what of it is taken: beside the words of the bookings that it overlaps. */
 function drawnOf(choice, rows) {
-  const clashes = clashesOf(rows, choice.from, choice.to), words = choice.words + (clashes.length ? '' : ' ' + hoursText(choice.from, choice.to));
+  const clashes = clashesOf(rows, choice.from, choice.to), { number } = choice, hours = hoursText(choice.from, choice.to);
+  const words = clashes.length ? say(number ? 'grid.alternative' : 'grid.wish', { number }) : say(number ? 'grid.alternativeAt' : 'grid.wishAt', { number, hours });
   return [placed(el('div', { className: 'choice' + (clashes.length ? ' clashing' : '') }, el('span', { className: 'words' }, words)),
     choice.from, choice.to), ...clashes.map(row =>
     placed(el('div', { className: 'clash' }), Math.max(row.start, choice.from), Math.min(row.stop, choice.to)))];
@@ -90,7 +92,7 @@ function bodyOf(column, from, to) {
   const sheet = sheetOf(column.room, column.day);
   const body = el('div', { className: 'body' });
   if (!sheet || !sheet.rows) {
-    body.append(el('p', { className: 'unknown' }, sheet ? 'This office does not know the room.' : 'Not read yet.'));
+    body.append(el('p', { className: 'unknown' }, sheet ? say('all.unknownRoom') : say('all.notRead')));
     return body;
   }
   const cells = [...sheet.rows.map(row => bookingOf(column, row)), ...slotsOf(column, sheet.rows, from, to)];
@@ -128,7 +130,7 @@ function placeNow(shown, from, to) {
   for (const line of byId('grid').querySelectorAll('.now')) line.remove();
   if (minute < from || to <= minute) return;
   for (const body of byId('grid').querySelectorAll('.column.today .body')) {
-    body.append(placed(el('div', { className: 'now', title: 'now, ' + day + ' ' + timeOf(minute) }), minute, minute));
+    body.append(placed(el('div', { className: 'now', title: say('grid.now', { day: dateText(day), time: timeOf(minute) }) }), minute, minute));
   }
 }
 

@@ -1,18 +1,18 @@
 // The groups of the office: what became of each of their requests, and the cancel of a whole one, which is pressed twice.
-import { byId, el, buttonOf, hoursText, minuteOf, renew, weekday } from './texts.js';
+import { byId, el, buttonOf, hoursText, minuteOf, renew, dateText, dayText } from './texts.js';
 import { Fault, askOutcome, askSheet, labelOf, now, page } from './office.js';
 import { sendCancel } from './cancel.js';
 import { groups, keepGroup } from './groups.js';
 import { patiently } from './sending.js';
 import { sure } from './question.js';
 import { chipOf, stateOf } from './states.js';
+import { listText, pieces, say } from './words.js';
 
 const opened = new Set();   // the names of those that are shown whole
 const outcomes = new Map(); // by room and id: what the office said last
 const work = { name: '', words: '', done: 0, of: 0, isStopped: false };
 
 const keyOf = item => item.room + ' ' + item.id;
-const countOf = items => items.length === 1 ? '1 request' : items.length + ' requests';
 
 /** What became of the requests of a group: by the sheets of their days, and by their ids where they aren't there. */
 async function askGroup(group) {
@@ -31,8 +31,8 @@ const isStanding = outcome => Boolean(outcome) && (outcome.state === 'booked' ||
 /** Cancels what stands of a group and is not past, one by one. */
 async function cancelGroup(group) {
   const coming = group.items.filter(item => item.id && item.day >= now().day && item.state !== 'cancelled');
-  const words = 'Cancel all ' + countOf(coming) + ' of ' + group.title + ' from today on? It can’t be taken back.';
-  if (work.name || !coming.length || !await sure(words, 'Cancel all', 'Leave them')) return;
+  const words = say('grouplist.sure', { count: coming.length, title: group.title });
+  if (work.name || !coming.length || !await sure(words, say('grouplist.sureYes'), say('grouplist.sureNo'))) return;
   Object.assign(work, { name: group.name, words: '', done: 0, of: coming.length, isStopped: false });
   const counts = { cancelled: 0, withdrawn: 0, gone: 0 };
   let trouble = '';
@@ -42,14 +42,17 @@ async function cancelGroup(group) {
     work.done += trouble ? 0 : 1;
     showGroups();
   }
-  const lost = await keepGroup(group), parts = [counts.cancelled + ' cancelled'];
-  if (counts.withdrawn) parts.push(counts.withdrawn + ' without a room withdrawn');
-  if (counts.gone) parts.push(counts.gone + ' had been cancelled before, or have no room');
-  work.words = parts.join(', ') + '.' + (trouble ? ' ' + trouble : '') + (work.isStopped ? ' Stopped: ' + (work.of - work.done) + ' stand.' : '') +
-    (lost ? ' The group’s list at the office is as it was: ' + lost + '.' : '');
+  const lost = await keepGroup(group);
+  work.words = [wordsOf(counts), trouble, work.isStopped && say('grouplist.stopped', { count: work.of - work.done }), lost && say('grouplist.notKept', { cause: lost })]
+    .filter(each => each).join(' ');
   work.name = '';
   page.round();
   showGroups();
+}
+
+function wordsOf({ cancelled, withdrawn, gone }) {
+  const parts = [say('grouplist.cancelled', { count: cancelled }), withdrawn && say('grouplist.withdrawn', { count: withdrawn }), gone && say('grouplist.gone', { count: gone })];
+  return say('grouplist.became', { parts: listText(parts.filter(each => each)) });
 }
 
 /** Cancels one, if it stands. Gives what went wrong. */
@@ -62,31 +65,32 @@ async function cancelItem(item, counts) {
       await sendCancel(booking);
       const after = await askOutcome(item.room, item.id);
       outcomes.set(keyOf(item), after);
-      if (isBooked && isStanding(after)) return 'The cancel of ' + item.title + ', ' + item.day + ' was perhaps not done; the rest was left.';
+      if (isBooked && isStanding(after)) return say('grouplist.perhapsNot', { title: item.title, date: dateText(item.day) });
       counts[isBooked ? 'cancelled' : 'withdrawn'] += 1;
     } else counts.gone += 1;
     item.state = 'cancelled';
     return '';
   } catch (fault) {
     if (!(fault instanceof Fault)) throw fault;
-    return 'Not cancelled: ' + item.title + ', ' + item.day + ' (' + fault.message + '); the rest was left.';
+    return say('grouplist.notCancelled', { title: item.title, date: dateText(item.day), cause: fault.message });
   }
 }
 
 // ---- what is shown
 
 function chipOfItem(item, outcome) {
-  if (!item.id) return chipOf('Perhaps booked', 'none');
-  if (outcome === undefined) return chipOf('Asking', 'open');
-  const isWithdrawn = item.state === 'cancelled' && outcome?.state === 'logged', [word, kind] = stateOf(outcome, isWithdrawn ? 'a cancel' : '');
+  if (!item.id) return chipOf(say('states.perhaps'), 'none');
+  if (outcome === undefined) return chipOf(say('grouplist.asking'), 'open');
+  const isWithdrawn = item.state === 'cancelled' && outcome?.state === 'logged', [word, kind] = stateOf(outcome, isWithdrawn);
   return chipOf(word, kind);
 }
 
 function rowOf(item) {
   const { room, day, start, length, title, id } = item, outcome = outcomes.get(keyOf(item)), from = minuteOf(start);
   const isMoved = outcome && outcome.state === 'booked' && (outcome.day !== day || outcome.start !== start);
-  const words = ' ' + weekday(day, 'short') + ' ' + day + ' ' + hoursText(from, from + length) + ', ' + labelOf(room) + ', ' + title + (id ? ', request ' + id : '');
-  return el('li', {}, chipOfItem(item, outcome), words, isMoved ? el('b', {}, ', now ' + outcome.day + ' ' + outcome.start) : null);
+  const values = { day: dayText(day, 'short'), hours: hoursText(from, from + length), room: labelOf(room), title, id };
+  const moved = isMoved && el('b', {}, say('grouplist.now', { date: dateText(outcome.day), start: outcome.start }));
+  return el('li', {}, chipOfItem(item, outcome), ' ', ...isMoved ? pieces('grouplist.moved', { ...values, moved }) : [say(id ? 'grouplist.request' : 'grouplist.item', values)]);
 }
 
 function toggle(group) {
@@ -98,7 +102,7 @@ function toggle(group) {
 }
 
 function keyed(name, group, words, act, properties) {
-  const button = buttonOf(words, act, { ...properties, 'aria-label': words + ': ' + group.title });
+  const button = buttonOf(words, act, { ...properties, 'aria-label': say('all.labelled', { words, title: group.title }) });
   button.dataset.key = name + ' ' + group.name;
   return button;
 }
@@ -106,19 +110,18 @@ function keyed(name, group, words, act, properties) {
 function itemOf(group) {
   const days = group.items.map(item => item.day).sort(), isOpen = opened.has(group.name), isAt = work.name === group.name;
   const left = group.items.filter(item => item.id && item.state !== 'cancelled' && item.day >= now().day);
-  const words = countOf(group.items) + ', ' + days[0] + ' to ' + days.at(-1) + (left.length ? '' : '; none of them stands from today on') + '.';
-  const cancel = isAt ? keyed('stop', group, 'Stop', () => { work.isStopped = true; })
-    : left.length ? keyed('all', group, 'Cancel all ' + left.length, () => cancelGroup(group), { className: 'cancel' }) : null;
+  const words = say(left.length ? 'grouplist.span' : 'grouplist.spanGone', { count: group.items.length, from: dateText(days[0]), to: dateText(days.at(-1)) });
+  const cancel = isAt ? keyed('stop', group, say('all.stop'), () => { work.isStopped = true; })
+    : left.length ? keyed('all', group, say('grouplist.all', { count: left.length }), () => cancelGroup(group), { className: 'cancel' }) : null;
   return el('section', { className: 'group', 'aria-label': group.title }, el('h3', {}, group.title), el('p', {}, words),
-    isAt ? el('p', {}, el('progress', { max: work.of, value: work.done, 'aria-label': 'Cancelled' }), ' ' + work.done + ' of ' + work.of) : null,
-    el('p', { className: 'buttons' }, keyed('show', group, isOpen ? 'Hide them' : 'Show them', () => toggle(group), { 'aria-expanded': isOpen }), cancel),
+    isAt ? el('p', {}, el('progress', { max: work.of, value: work.done, 'aria-label': say('states.cancelled') }), ' ', say('grouplist.done', { done: work.done, of: work.of })) : null,
+    el('p', { className: 'buttons' }, keyed('show', group, say(isOpen ? 'grouplist.hide' : 'grouplist.show'), () => toggle(group), { 'aria-expanded': isOpen }), cancel),
     isOpen ? el('ul', {}, ...group.items.map(rowOf)) : null);
 }
 
 export function showGroups() {
   const held = document.activeElement && document.activeElement.dataset.key, place = byId('groups');
-  const some = groups.list.length ? 'What was asked for together, at this office.' : 'None yet.';
-  const words = groups.isThere ? some : 'This office keeps no groups: its proxy is an older one.';
+  const words = say(!groups.isThere ? 'grouplist.older' : groups.list.length ? 'grouplist.hint' : 'grouplist.none');
   renew(place, el('p', { className: 'hint' }, words), el('p', { role: 'status', className: 'good' }, work.words),
     ...groups.list.filter(group => group.items.length).map(itemOf));
   if (!held || document.activeElement !== document.body) return;

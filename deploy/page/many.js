@@ -1,19 +1,21 @@
 // Many at once: the panel in which a series is made, or a file read, looked at, and asked for one by one; and where a run that was broken off
 // is taken up.
-import { byId, el, buttonOf, isDay, put, weekday } from './texts.js';
+import { byId, el, buttonOf, isDay, put, weekday, weekOf } from './texts.js';
 import { Fault, at, labelOf, office, page } from './office.js';
 import { sendCancel } from './cancel.js';
 import { fillFile, startFile } from './filepart.js';
 import { askGroups, contentOf } from './groups.js';
 import { showGroups } from './grouplist.js';
 import { alone, dropRun, readRun } from './journal.js';
-import { itemOf, look, STATES } from './plan.js';
+import { isMailWell } from './mail.js';
+import { countOf, itemOf, look, STATES } from './plan.js';
 import { FEW, forgetPlan, offerFor, showItems } from './planlist.js';
 import { sure } from './question.js';
 import { askAll, begin, keep, lookAgain, run, takeUp, wantedOf } from './run.js';
 import { daysOfList, daysOfSeries, numberOf } from './series.js';
+import { say } from './words.js';
 
-const REST = 300;
+const REST = 300, ANY_DAY = '2026-06-03';
 let part = 'series', isLooking = false, isStopped = false, looked = [0, 0], drawn = 0;
 
 // ---- the series
@@ -37,26 +39,27 @@ function tickDay() {
   if (isDay(from) && !ticks().some(box => box.dataset.byHand)) for (const box of ticks()) box.checked = Number(box.value) === numberOf(from);
 }
 
+/** A box for each day of the week, in the order that it has by the language; the value is 1 for Monday in each. */
 function makeTicks() {
-  byId('series-weekdays').append(...[1, 2, 3, 4, 5, 6, 7].map(number => {
-    const box = el('input', { type: 'checkbox', value: number });
+  byId('series-weekdays').append(...weekOf(ANY_DAY).map(day => {
+    const box = el('input', { type: 'checkbox', value: numberOf(day) });
     box.addEventListener('change', () => { box.dataset.byHand = 'yes'; });
-    return el('label', { className: 'tick' }, box, weekday('2026-06-0' + number, 'short'));
+    return el('label', { className: 'tick' }, box, weekday(day, 'short'));
   }));
 }
 
 /** The items of the series as it is filled in, or what is wrong. */
 function readSeries() {
   const value = id => byId(id).value.trim(), length = value('series-length');
-  if (!value('series-start')) return { trouble: 'A series has a start.' };
-  if (!/^[0-9]{1,4}$/.test(length) || Number(length) < 1 || Number(length) > 1440) return { trouble: 'A length is a number of minutes from 1 to 1440.' };
-  if (!value('series-title')) return { trouble: 'A series has a title.' };
+  if (!value('series-start')) return { trouble: say('many.noStart') };
+  if (!/^[0-9]{1,4}$/.test(length) || Number(length) < 1 || Number(length) > 1440) return { trouble: say('many.noLength') };
+  if (!value('series-title')) return { trouble: say('many.noTitle') };
   const list = value('series-list'), { days, trouble } = list ? daysOfList(list) : daysOfSeries({ from: value('series-from'), until: value('series-until'),
     weekdays: ticks().filter(box => box.checked).map(box => Number(box.value)), every: value('series-every') });
   if (trouble) return { trouble };
   const wish = { room: value('series-room'), start: value('series-start'), length: Number(length), title: byId('series-title').value };
   const isLate = Number(wish.start.slice(0, 2)) * 60 + Number(wish.start.slice(3)) + wish.length > 1440;
-  return isLate ? { trouble: 'A meeting ends at midnight at the latest.' } : { items: days.map(day => itemOf({ ...wish, day, key: '' })) };
+  return isLate ? { trouble: say('all.midnight') } : { items: days.map(day => itemOf({ ...wish, day, key: '' })) };
 }
 
 function lookAtSeries(event) {
@@ -89,12 +92,13 @@ async function lookAgainAtAll() {
 }
 
 async function go() {
+  if (!isMailWell('plan-mail')) return;
   run.isGoing = true;
   showPlan();
   byId('plan-words').scrollIntoView({ block: 'center' });
   if (await alone(async () => { await askAll(); return true; })) return ended();
   run.isGoing = false;
-  run.trouble = 'Another window of this browser is at work on such a list';
+  run.trouble = say('many.otherWindow');
   showPlan();
 }
 
@@ -125,21 +129,21 @@ async function takeSlot(item, slot) {
 async function withdraw(item, next) {
   const first = { room: item.room, title: item.title, now: { id: item.id, state: 'logged', mark: item.mark || 'T' }, withdrawn: '' };
   if (first.now.mark === 'T' && !await sendCancel(first)) {
-    run.trouble = 'The request before, ' + item.id + ', is not withdrawn, and may still be booked too';
+    run.trouble = say('many.notWithdrawn', { id: item.id });
     return;
   }
   run.items.splice(run.items.indexOf(item), 1);
-  next.words = 'Instead of request ' + item.id + (first.withdrawn ? ', which is withdrawn' : '');
+  next.words = say(first.withdrawn ? 'many.insteadWithdrawn' : 'many.instead', { id: item.id });
   await keep();
   if (!run.keepTrouble) dropRun();
 }
 
 function wordsOfPlan() {
   const count = state => run.items.filter(item => item.state === state).length;
-  const parts = Object.keys(STATES).filter(count).map(state => count(state) + ' ' + STATES[state][0].replace(/^./, letter => letter.toLowerCase()));
-  if (isLooking) return 'Looking at the sheets: ' + looked[0] + ' of ' + looked[1] + '.';
-  if (run.isGoing) return 'Asking: ' + run.done + ' of ' + run.of + '.';
-  return run.items.length + ' in the list: ' + parts.join('; ') + '.';
+  if (isLooking) return say('many.looking', { done: looked[0], of: looked[1] });
+  if (run.isGoing) return say('many.asking', { done: run.done, of: run.of });
+  const counts = Object.keys(STATES).filter(count).map(state => countOf(state, count(state)));
+  return say('many.list', { count: run.items.length, counts: counts.reduce((words, next) => words ? say('many.beside', { words, next }) : next, '') });
 }
 
 function keyed(name, words, act, properties) {
@@ -150,11 +154,11 @@ function keyed(name, words, act, properties) {
 
 function buttonsOfPlan() {
   const wanted = wantedOf(run.items).length, unsure = run.items.filter(item => item.state === 'perhaps');
-  if (run.isGoing || isLooking) return [keyed('stop', 'Stop', () => { run.isStopped = isStopped = true; })];
-  return [wanted ? keyed('ask', 'Ask for ' + wanted, go, { className: 'main' }) : null,
-    unsure.length ? keyed('unsure', 'Look whether it is there', () => lookForUnsure(unsure)) : null,
-    run.keepTrouble ? keyed('keep', 'Keep the group again', keepAgain) : null,
-    wanted ? keyed('again', 'Look again', lookAgainAtAll) : null, keyed('away', 'Put the list away', putAway)].filter(button => button);
+  if (run.isGoing || isLooking) return [keyed('stop', say('all.stop'), () => { run.isStopped = isStopped = true; })];
+  return [wanted ? keyed('ask', say('many.ask', { count: wanted }), go, { className: 'main' }) : null,
+    unsure.length ? keyed('unsure', say('many.unsure'), () => lookForUnsure(unsure)) : null,
+    run.keepTrouble ? keyed('keep', say('many.keep'), keepAgain) : null,
+    wanted ? keyed('again', say('many.again'), lookAgainAtAll) : null, keyed('away', say('many.away'), putAway)].filter(button => button);
 }
 
 async function lookForUnsure(items) {
@@ -172,7 +176,7 @@ async function keepAgain() {
 
 async function putAway() {
   const left = wantedOf(run.items).length;
-  if (left && run.items.some(item => item.id) && !await sure(left + ' of the list were not asked for. Put it away all the same?', 'Put it away', 'Leave it')) return;
+  if (left && run.items.some(item => item.id) && !await sure(say('many.sure', { count: left }), say('many.sureYes'), say('many.sureNo'))) return;
   dropRun();
   byId('file-pick').value = '';
   begin('', [{ day: at.day }]);
@@ -196,8 +200,7 @@ function showPlan() {
 }
 
 function troubleWords() {
-  const words = [run.trouble, run.keepTrouble && 'The group is not kept at the office (' + run.keepTrouble + '), and can’t be cancelled as one yet'];
-  return words.filter(each => each).map(each => each + '.').join(' ');
+  return [run.trouble, run.keepTrouble && say('many.notKept', { cause: run.keepTrouble })].filter(each => each).join(' ');
 }
 
 // ---- the panel
@@ -235,7 +238,7 @@ export async function findBroken() {
   await takeUp(broken);
   await look(run.items, () => {}, () => false);
   const left = wantedOf(run.items).length;
-  run.trouble = 'This list was broken off: ' + (left ? left + ' were not asked for' : 'all were asked for') + (run.trouble ? '. ' + run.trouble : '');
+  run.trouble = [say('many.broken', { count: left }), run.trouble].filter(each => each).join(' ');
   if (!left && !run.keepTrouble) dropRun();
   showPlan();
 }

@@ -1,6 +1,7 @@
 // Whether the offices have met: when each other office was met last, and how many requests wait to be final. The office's service
 // writes it each minute into status.json; a page shows it in one line, red from the age on that the file names.
 import { el, renew } from './texts.js';
+import { say } from './words.js';
 import { momentOf } from './office.js';
 
 const MINUTE = 60000, SILENT = 5;
@@ -24,17 +25,17 @@ function metWords(status, at = new Date()) {
   if (!offices.length) return [];
   const words = offices.map(({ name, met, fault }) => {
     const isRed = isOlder(met, status.red_minutes || 60);
-    return { isRed, words: (met ? 'Met ' + name + ' ' + momentOf(met) : 'Never met ' + name) + (isRed && fault ? ' (' + fault + ')' : '') };
+    const has = isRed && fault, values = { name, moment: met && momentOf(met), fault };
+    return { isRed, words: met ? say(has ? 'met.metFault' : 'met.met', values) : say(has ? 'met.neverFault' : 'met.never', values) };
   });
-  const count = status.tentative;
-  words.push({ isRed: false, words: count === 1 ? '1 request waits to be final' : (count || 'No') + ' requests wait to be final' });
-  if (isOlder(made, SILENT)) words.unshift({ isRed: true, words: 'The office’s service has written nothing since ' + (made ? momentOf(made) : 'ever') });
+  words.push({ isRed: false, words: say('met.waiting', { count: status.tentative || 0 }) });
+  if (isOlder(made, SILENT)) words.unshift({ isRed: true, words: made ? say('met.silentSince', { moment: momentOf(made) }) : say('met.silent') });
   return words;
 }
 
 export function showMet(place, status) {
   const words = metWords(status);
   place.hidden = !words.length;
-  renew(place, ...words.flatMap(each => [el('span', { className: each.isRed ? 'red' : '' }, each.words + '.'), ' '])
+  renew(place, ...words.flatMap(each => [el('span', { className: each.isRed ? 'red' : '' }, each.words), ' '])
     .map(each => typeof each === 'string' ? document.createTextNode(each) : each));
 }

@@ -1,5 +1,5 @@
 // My requests: those of this browser, kept in it and nowhere else, with what became of them, day by day.
-import { byId, el, buttonOf, renew, weekday } from './texts.js';
+import { byId, el, buttonOf, renew, dateText, dayText } from './texts.js';
 import { labelOf, now, page } from './office.js';
 import { askBox, showBox } from './box.js';
 import { cancelButton, troubleOf } from './cancel.js';
@@ -7,13 +7,14 @@ import { follow } from './follow.js';
 import { openMove } from './move.js';
 import { sure } from './question.js';
 import { chipOf, stateOf } from './states.js';
+import { pieces, say } from './words.js';
 
 const FEW = 4;
 let mine = [];
 let underWay = null;
 const folded = new Map();   // days that were opened or shut by hand
 
-const slotText = slot => slot.day + ' ' + slot.start;
+const slotText = slot => say('all.slot', { date: dateText(slot.day), start: slot.start });
 const sameSlot = (one, other) => one.day === other.day && one.start === other.start;
 const isBooked = entry => Boolean(entry.now) && !entry.gone && entry.now.state === 'booked';
 const dayOf = entry => isBooked(entry) ? entry.now.day : entry.wish.day;
@@ -79,22 +80,22 @@ export async function askMine(begun) {
 function movedText(entry) {
   const first = entry.first, last = entry.now;
   if (!first || !last) return null;
-  if (first.state === 'booked' && last.state === 'logged') return 'It had ' + slotText(first) + ' and lost it to an earlier request.';
+  if (first.state === 'booked' && last.state === 'logged') return say('mine.lost', { slot: slotText(first) });
   if (last.state !== 'booked' || (first.state === 'booked' && sameSlot(first, last))) return null;
-  return first.state === 'booked' ? 'Moved from ' + slotText(first) + ' to ' + slotText(last) + '.' : 'It has found room by now.';
+  return first.state === 'booked' ? say('all.moved', { from: slotText(first), to: slotText(last) }) : say('mine.found');
 }
 
 function stateOfMine(entry) {
-  if (entry === underWay) return ['On its way', 'open', ''];
-  if (!entry.now) return ['Perhaps booked', 'none', 'No reply came: look at the sheet. It is not sent again.'];
-  const state = stateOf(entry.gone ? null : entry.now, entry.withdrawn);
-  if (isBooked(entry)) state[2] = entry.now.day + ' ' + entry.now.start + '–' + entry.now.stop + '. ' + state[2];
+  if (entry === underWay) return [say('mine.onItsWay'), 'open', ''];
+  if (!entry.now) return [say('states.perhaps'), 'none', say('mine.noReply')];
+  const state = stateOf(entry.gone ? null : entry.now, entry.withdrawn), { day, start, stop } = entry.now;
+  if (isBooked(entry)) state[2] = say('mine.has', { date: dateText(day), hours: start + '–' + stop }) + ' ' + state[2];
   return state;
 }
 
 /** A button of the list, which is found again by its key when the list is made anew. */
 function keyedButton(entry, words, name, act) {
-  const button = buttonOf(words, act, { 'aria-label': words + ': ' + entry.title });
+  const button = buttonOf(words, act, { 'aria-label': say('all.labelled', { words, title: entry.title }) });
   button.dataset.key = name + ' ' + entry.sent;
   return button;
 }
@@ -103,31 +104,30 @@ function keyedButton(entry, words, name, act) {
 function undoOf(entry) {
   const isWaiting = entry.now && !entry.gone && entry.now.state === 'logged' && entry.now.mark === 'T' && !entry.withdrawn;
   if (!isBooked(entry) && !isWaiting) return null;
-  return cancelButton(entry, isWaiting ? 'Withdraw' : 'Cancel', (words, act) => keyedButton(entry, words, 'cancel', act));
+  return cancelButton(entry, say(isWaiting ? 'all.withdraw' : 'mine.cancel'), (words, act) => keyedButton(entry, words, 'cancel', act));
 }
 
 /** Its booking, as something that can be moved. */
 function moveOf(entry) {
   if (!isBooked(entry)) return null;
   const { id, day, start } = entry.now;
-  return keyedButton(entry, 'Change', 'move', () => openMove({ room: entry.room, id, title: entry.title, day, start, length: entry.length }));
+  return keyedButton(entry, say('all.change'), 'move', () => openMove({ room: entry.room, id, title: entry.title, day, start, length: entry.length }));
 }
 
 function itemOf(entry) {
   const [word, kind, words] = stateOfMine(entry), moved = movedText(entry), outcome = entry.now, trouble = outcome && troubleOf(entry);
+  const asked = { room: labelOf(entry.room), slot: slotText(entry.wish), id: outcome?.id };
   return el('li', {}, chipOf(word, kind), ' ', el('b', {}, entry.title), ' ',
-    el('span', {}, labelOf(entry.room) + ', asked for ' + slotText(entry.wish) + (outcome ? ', request ' + outcome.id : '') + '. ' + words),
+    el('span', {}, say(outcome ? 'mine.askedAs' : 'mine.asked', asked) + ' ' + words),
     moved ? el('span', { className: 'moved' }, moved) : null, trouble ? el('span', { className: 'error' }, trouble) : null,
     el('span', { className: 'buttons' },
-      keyedButton(entry, 'Show the day', 'show', () => page.goTo({ day: dayOf(entry), room: entry.room })), undoOf(entry), moveOf(entry),
-      keyedButton(entry, 'Take off this list', 'off', () => takeOff(entry))));
+      keyedButton(entry, say('all.showDay'), 'show', () => page.goTo({ day: dayOf(entry), room: entry.room })), undoOf(entry), moveOf(entry),
+      keyedButton(entry, say('mine.takeOff'), 'off', () => takeOff(entry))));
 }
 
 async function takeOff(entry) {
-  const words = 'The booking stands: taken off this list, it stays booked all the same. To free the room, cancel it.';
-  const perhaps = 'Nobody knows yet whether this is booked. Take it off this list all the same?';
-  if (isBooked(entry) && !await sure(words, 'Take off this list', 'Leave it')) return;
-  if (!entry.now && !await sure(perhaps, 'Take off this list', 'Leave it')) return;
+  const isUnsure = isBooked(entry) ? 'mine.staysBooked' : entry.now ? '' : 'mine.notKnownYet';
+  if (isUnsure && !await sure(say(isUnsure), say('mine.takeOff'), say('all.leaveIt'))) return;
   dropMine(entry);
 }
 
@@ -136,15 +136,14 @@ async function takeOff(entry) {
 /** The entries of a day, folded if there are many and it isn't shown: the latest first. */
 function dayItem(day, entries, isOpen) {
   const lost = entries.filter(entry => entry.now && !isBooked(entry) && entry.now.state !== 'cancelled' && !entry.withdrawn).length;
-  const summary = el('summary', {}, weekday(day, 'short') + ' ' + day + ' ', el('span', { className: 'count' }, countOf(entries.length)),
-    lost ? el('span', { className: 'bad' }, ', ' + lost + ' without a room') : null);
-  const details = el('details', { open: folded.get(day) ?? isOpen, 'aria-label': day }, summary, el('ul', {}, ...entries.map(itemOf)));
+  const requests = el('span', { className: 'count' }, say('all.requests', { count: entries.length }));
+  const without = el('span', { className: 'bad' }, say('mine.withoutRoom', { count: lost }));
+  const summary = el('summary', {}, ...pieces(lost ? 'mine.dayLost' : 'mine.day', { day: dayText(day, 'short'), requests, without }));
+  const details = el('details', { open: folded.get(day) ?? isOpen, 'aria-label': dateText(day) }, summary, el('ul', {}, ...entries.map(itemOf)));
   summary.addEventListener('click', () => folded.set(day, !details.open));
   summary.dataset.key = 'day ' + day;
   return details;
 }
-
-const countOf = count => count === 1 ? '1 request' : count + ' requests';
 
 function daysOf(entries) {
   const days = new Map();
@@ -156,7 +155,7 @@ function daysOf(entries) {
 function pastItems(past) {
   if (!past.length) return [];
   const all = past.flatMap(([, entries]) => entries);
-  const button = buttonOf('Take off all ' + all.length + ' of past days', () => dropMine(...all), {});
+  const button = buttonOf(say('mine.takeOffPast', { count: all.length }), () => dropMine(...all), {});
   button.dataset.key = 'past';
   return [el('p', { className: 'buttons' }, button), ...past.map(([day, entries]) => dayItem(day, entries, false))];
 }
@@ -165,7 +164,7 @@ export function showMine() {
   const held = document.activeElement && document.activeElement.dataset.key, list = byId('mine'), today = now().day;
   const days = daysOf(mine), isFew = mine.length <= FEW, newest = mine.length ? dayOf(mine[0]) : '';
   const coming = days.filter(([day]) => day >= today), past = days.filter(([day]) => day < today);
-  renew(list, ...(mine.length ? [] : [el('p', {}, 'None yet.')]),
+  renew(list, ...(mine.length ? [] : [el('p', {}, say('mine.none'))]),
     ...coming.map(([day, entries]) => dayItem(day, entries, isFew || day === newest)), ...pastItems(past));
   const button = [...list.querySelectorAll('[data-key]')].find(each => each.dataset.key === held && !each.disabled);
   if (held && document.activeElement === document.body) (button || list).focus();

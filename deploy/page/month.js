@@ -1,13 +1,15 @@
 // The month of a room: a day is a button with its bookings, which leads to that day. Arrow keys move from day to day.
-import { byId, dayBeside, el, buttonOf, FIRST, LAST, put, renew, timeOf, weekday, weekOf } from './texts.js';
+import { byId, dayBeside, el, buttonOf, FIRST, LAST, noonOf, put, renew, placeInWeek, timeOf, weekday, weekOf, dayText } from './texts.js';
+import { locale } from './language.js';
 import { at, labelOf, now, page, sheetOf } from './office.js';
+import { capital, say } from './words.js';
 
 const FEW = 3, MOST_DAYS = 31;
 let cursor = '';        // the day that Tab reaches
 let isStepped = false;  // a key led into another month, where the focus goes
 
 const monthOf = day => day.slice(0, 7);
-const nameOf = day => new Date(monthOf(day) + '-15T12:00:00Z').toLocaleDateString('en-GB', { month: 'long', year: 'numeric', timeZone: 'UTC' });
+const nameOf = day => noonOf(day).toLocaleDateString(locale, { month: 'long', year: 'numeric', timeZone: 'UTC' });
 
 function daysOf(day) {
   const first = monthOf(day) + '-01', days = [];
@@ -16,7 +18,7 @@ function daysOf(day) {
 }
 
 export const monthColumns = () => daysOf(at.day).map(day => ({ room: at.room, day }));
-export const monthTitle = () => labelOf(at.room) + ', ' + nameOf(at.day);
+export const monthTitle = () => say('month.title', { room: labelOf(at.room), month: nameOf(at.day) });
 
 /** The same day of the month beside, or its last one. */
 export function monthBeside(day, sign) {
@@ -25,28 +27,26 @@ export function monthBeside(day, sign) {
   return monthOf(same) === monthOf(day) ? (sign > 0 ? LAST : FIRST) : same;
 }
 
-const countOf = rows => rows.length === 1 ? '1 booking' : (rows.length || 'no') + ' bookings';
-
 function cellOf(day) {
   const sheet = sheetOf(at.room, day), rows = sheet && sheet.rows || [], number = String(Number(day.slice(8)));
-  const words = !sheet ? 'not read yet' : !sheet.rows ? 'the room is not known here' : countOf(rows);
+  const words = !sheet ? say('month.notRead') : !sheet.rows ? say('month.notKnown') : say('month.bookings', { count: rows.length });
   const titles = rows.slice(0, FEW).map(row => el('span', { className: 'meeting' + (row.mark === 'C' ? '' : ' waiting') }, timeOf(row.start) + ' ' + row.title));
-  const more = rows.length > FEW ? [el('span', { className: 'hint' }, 'and ' + (rows.length - FEW) + ' more')] : [];
+  const more = rows.length > FEW ? [el('span', { className: 'hint' }, say('month.more', { count: rows.length - FEW }))] : [];
   const button = buttonOf('', () => page.goTo({ day, view: 'day' }), { className: 'date' + (day === now().day ? ' today' : '') + (rows.length ? ' used' : ''), tabIndex: -1,
-    'aria-label': weekday(day) + ' ' + day + ', ' + words + rows.map(row => ', ' + timeOf(row.start) + ' ' + row.title).join('') });
+    'aria-label': [dayText(day), words, ...rows.map(row => timeOf(row.start) + ' ' + row.title)].join(', ') });
   button.append(el('b', {}, number), ' ', el('span', { className: 'count' }, sheet ? rows.length ? String(rows.length) : '' : '…'), ...titles, ...more);
   button.dataset.day = day;
   return button;
 }
 
 export function showMonth() {
-  const place = byId('month'), held = place.contains(document.activeElement) && document.activeElement.dataset.day, days = daysOf(at.day), week = weekOf(days[0]);
-  const before = week.filter(day => day < days[0]).length, cells = [...Array(before).fill(null), ...days];
+  const place = byId('month'), held = place.contains(document.activeElement) && document.activeElement.dataset.day, days = daysOf(at.day);
+  const before = placeInWeek(days[0]), cells = [...Array(before).fill(null), ...days];
   const rows = Array.from({ length: Math.ceil(cells.length / 7) }, (_, line) => Array.from({ length: 7 }, (__, column) => cells[7 * line + column] || null));
-  const heads = weekOf('1995-12-18').map(day => el('th', { scope: 'col', abbr: weekday(day) }, weekday(day, 'short')));
+  const heads = weekOf('1995-12-18').map(day => el('th', { scope: 'col', abbr: weekday(day) }, capital(weekday(day, 'short'))));
   renew(place, el('table', { 'aria-label': monthTitle() }, el('thead', {}, el('tr', {}, ...heads)),
     el('tbody', {}, ...rows.map(row => el('tr', {}, ...row.map(day => el('td', {}, day ? cellOf(day) : '')))))));
-  put({ 'month-hint': 'Press a day to see it. Arrow keys move from day to day.' });
+  put({ 'month-hint': say('month.hint') });
   placeCursor(held || (isStepped && monthOf(cursor) === monthOf(at.day) ? cursor : ''));
   isStepped = false;
 }

@@ -1,5 +1,5 @@
 // Changes of bookings that were broken off: what of each stands at the office, and what may be done about it.
-import { byId, el, buttonOf, hoursText, minuteOf, renew, weekday } from './texts.js';
+import { byId, el, buttonOf, hoursText, minuteOf, renew, dayText } from './texts.js';
 import { Fault, labelOf, page } from './office.js';
 import { replaceInGroups } from './groups.js';
 import { adoptMine } from './mine.js';
@@ -7,6 +7,7 @@ import { alone, dropMove, keepMove, lookAtMove, readMoves, standingOf } from './
 import { cancel } from './moving.js';
 import { sendRequest } from './sending.js';
 import { report } from './states.js';
+import { say } from './words.js';
 
 const known = new Map();    // what stands, by the key of a move: the outcomes of both requests, or the words of a fault
 let isAtWork = false;
@@ -34,34 +35,34 @@ async function look(move) {
 
 function slotWords({ room, day, start, length }) {
   const from = minuteOf(start);
-  return labelOf(room) + ', ' + weekday(day, 'short') + ' ' + day + ' ' + hoursText(from, from + length);
+  return say('movelist.slot', { room: labelOf(room), day: dayText(day, 'short'), hours: hoursText(from, from + length) });
 }
 
 /** What stands of a move, and the buttons that go with it. */
 function wordsOf(move, found) {
   const { old, wish } = move, { stands, waiting } = standingOf(found), { is } = found;
-  const from = slotWords(old), to = slotWords(wish) + (wish.title === old.title ? '' : ', ' + wish.title);
+  const from = slotWords(old), to = wish.title === old.title ? slotWords(wish) : say('movelist.renamed', { slot: slotWords(wish), title: wish.title });
   const away = (words, act = () => forget(move)) => button(move, words, act);
   if (stands === 'both') {
-    return ['Both stand: ' + from + ' (request ' + old.id + ') and ' + to + ' (request ' + is.id + ').',
-      away('Cancel the old one', () => finish(move, found)), away('Cancel the new one', () => undo(move, found)), away('Leave both')];
+    return [say('movelist.both', { from, old: old.id, to, new: is.id }),
+      away(say('movelist.cancelOld'), () => finish(move, found)), away(say('movelist.cancelNew'), () => undo(move, found)), away(say('movelist.leaveBoth'))];
   }
   if (stands === 'new') {
     const isThere = is.day === wish.day && is.start === wish.start;
-    const words = isThere ? 'It was done: ' + to + ' is booked' : to + ' was taken. It has ' + slotWords({ ...wish, day: is.day, start: is.start });
-    return [words + ', as request ' + is.id + ', and the old booking is gone.', away('All right', () => settle(move, found))];
+    const slot = slotWords({ ...wish, day: is.day, start: is.start });
+    const words = isThere ? say('movelist.done', { to, id: is.id }) : say('movelist.fellBack', { to, slot, id: is.id });
+    return [words, away(say('movelist.allRight'), () => settle(move, found))];
   }
   if (stands === 'old') {
-    const words = 'It was not done: ' + from + ' stands as it was.';
-    return waiting ? [words + ' The request for ' + to + ' has no room, and may still get one.', away('Withdraw that request', () => undo(move, found)), away('Leave it')]
-      : [words, away('All right')];
+    return waiting ? [say('movelist.notDoneWaiting', { from, to }), away(say('movelist.withdraw'), () => undo(move, found)), away(say('all.leaveIt'))]
+      : [say('movelist.notDone', { from }), away(say('movelist.allRight'))];
   }
-  return ['Neither stands: ' + from + ' was cancelled or lost its room, and ' + to + (waiting ? ' has no room, and may still get one.' : ' is not booked.'),
-    away('Ask for ' + to, () => askFor(move, found, wish)), ...from === to ? [] : [away('Ask for ' + from, () => askFor(move, found, old))], away('Leave it')];
+  return [say(waiting ? 'movelist.neitherWaiting' : 'movelist.neither', { from, to }), away(say('all.askFor', { what: to }), () => askFor(move, found, wish)),
+    ...from === to ? [] : [away(say('all.askFor', { what: from }), () => askFor(move, found, old))], away(say('all.leaveIt'))];
 }
 
 function button(move, words, act) {
-  const made = buttonOf(words, act, { disabled: isAtWork, 'aria-label': words + ': ' + move.old.title });
+  const made = buttonOf(words, act, { disabled: isAtWork, 'aria-label': say('all.labelled', { words, title: move.old.title }) });
   made.dataset.key = words + ' ' + move.key;
   return made;
 }
@@ -83,36 +84,36 @@ async function settle(move, { is }) {
 const finish = (move, found) => work(move, async () => {
   await cancel(move.old);
   await settle(move, found);
-  return 'The old booking is cancelled: ' + slotWords(move.old) + '.';
+  return { isGood: true, words: say('movelist.oldCancelled', { slot: slotWords(move.old) }) };
 });
 
 const undo = (move, { is }) => work(move, async () => {
   await cancel({ room: move.wish.room, id: is.id });
   forget(move);
-  return 'The new request ' + is.id + ' is taken back; ' + slotWords(move.old) + ' stands.';
+  return { isGood: true, words: say('movelist.takenBack', { id: is.id, slot: slotWords(move.old) }) };
 });
 
 const askFor = (move, { is }, slot) => work(move, async () => {
   const { room, day, start, length, title } = slot;
   if (is && is.state === 'logged' && is.mark === 'T') await cancel({ room: move.wish.room, id: is.id });
   const { kind, outcome, words } = await sendRequest({ room, day, start, length, title });
-  if (kind !== 'booked') return 'Not booked: ' + (words || slotWords(slot) + ' is taken') + '.';
+  if (kind !== 'booked') return { isGood: false, words: kind === 'refused' ? say('movelist.refused', { refusal: words })
+    : kind === 'perhaps' ? say('movelist.notBooked', { cause: words }) : say('movelist.taken', { slot: slotWords(slot) }) };
   keepMove({ ...move, wish: slot, id: outcome.id });
   await settle({ ...move, wish: slot }, { is: outcome });
-  return 'Booked, not final yet: ' + title + ', ' + slotWords(slot) + ', request ' + outcome.id + '.';
+  return { isGood: true, words: say('movelist.booked', { title, slot: slotWords(slot), id: outcome.id }) };
 });
 
 /** Does one thing at a time, and says what came of it. */
 async function work(move, act) {
   isAtWork = true;
   showMoves();
-  let words = '';
   try {
-    words = await act();
-    report(words, !words.startsWith('Not '));
+    const { words, isGood } = await act();
+    report(words, isGood);
   } catch (fault) {
     if (!(fault instanceof Fault)) throw fault;
-    report('Perhaps not done: ' + fault.message + '. What stands is looked at again.', false);
+    report(say('movelist.perhaps', { cause: fault.message }), false);
   }
   isAtWork = false;
   await askMoves();
@@ -124,7 +125,7 @@ export function showMoves() {
   byId('moves').hidden = !moves.length;
   renew(byId('moves-list'), ...moves.map(move => {
     const found = known.get(move.key);
-    const [words, ...buttons] = found.fault ? ['What of it stands is not known yet (' + found.fault + '). It is looked at again.'] : wordsOf(move, found);
+    const [words, ...buttons] = found.fault ? [say('movelist.unknown', { cause: found.fault })] : wordsOf(move, found);
     return el('li', {}, el('b', {}, move.old.title), ' ', el('span', {}, words), el('span', { className: 'buttons' }, ...buttons));
   }));
   if (held && document.activeElement === document.body && moves.length) byId('moves-title').focus();

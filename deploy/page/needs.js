@@ -1,6 +1,7 @@
 // What is needed of a room, as the view of free rooms asks for it: seats and equipment, which rooms.json names.
 import { byId, el, renew } from './texts.js';
 import { office } from './office.js';
+import { say } from './words.js';
 
 export const seatsOf = room => Number.isInteger(room.seats) && room.seats > 0 ? room.seats : 0;
 const hasOf = room => Array.isArray(room.has) ? room.has.filter(thing => typeof thing === 'string') : [];
@@ -21,4 +22,4 @@ export function roomsThatFit() {
 }
 
 /** What a room has, in words. */
-export const hasWords = room => [seatsOf(room) ? seatsOf(room) + (seatsOf(room) === 1 ? ' seat' : ' seats') : '', ...hasOf(room)].filter(word => word).join(', ');
+export const hasWords = room => [seatsOf(room) ? say('needs.seats', { count: seatsOf(room) }) : '', ...hasOf(room)].filter(word => word).join(', ');

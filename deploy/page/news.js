@@ -2,6 +2,7 @@
 // office. The office's service writes news.json; a mark under /told/ says, to all desks of the office, that people were told.
 import { Fault, askFile, putMark } from './office.js';
 import { mineOf } from './mine.js';
+import { listText, say } from './words.js';
 
 const KINDS = ['lost', 'moved', 'found', 'cancelled'];
 let news = { made: null, items: [], server: 0 };
@@ -53,16 +54,17 @@ export async function tell(entries) {
     return '';
   } catch (fault) {
     if (!(fault instanceof Fault)) throw fault;
-    return 'Not marked as told: ' + fault.message + '. You may press it again.';
+    return say('news.notMarked', { cause: fault.message });
   }
 }
 
+/** How many of a kind, where they come first, and behind others; what was lost comes before all others. */
+const COUNTS = {
+  lost: ['news.lost'], moved: ['news.moved', 'news.movedToo'], found: ['news.found', 'news.foundToo'], cancelled: ['news.cancelled', 'news.cancelledToo'],
+};
+
 /** In one line, for the bar. */
 export function newsLine(entries) {
-  const count = kind => entries.filter(entry => entry.kind === kind).length;
-  const words = { lost: 'lost their room', moved: 'moved', found: 'found a room after all', cancelled: 'were cancelled by another office' };
-  const single = { ...words, lost: 'lost its room', cancelled: 'was cancelled by another office' };
-  const parts = KINDS.filter(count).map((kind, place) => count(kind) + (place ? '' : count(kind) === 1 ? ' meeting' : ' meetings') + ' ' +
-    (count(kind) === 1 ? single : words)[kind]);
-  return parts.join(', ');
+  const countOf = kind => entries.filter(entry => entry.kind === kind).length;
+  return listText(KINDS.filter(countOf).map((kind, place) => say(COUNTS[kind][place ? 1 : 0], { count: countOf(kind) })));
 }

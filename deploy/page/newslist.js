@@ -1,11 +1,12 @@
 // The bar that says how many meetings lost their room or moved, and the list that it leads to, day by day.
-import { byId, el, buttonOf, minuteOf, put, renew, weekday } from './texts.js';
+import { byId, el, buttonOf, minuteOf, put, renew, dateText, dayText } from './texts.js';
 import { labelOf, office, page } from './office.js';
 import { cancelButton, troubleOf } from './cancel.js';
 import { askAgain } from './wish.js';
 import { newsLine, slotOf, tell, untold } from './news.js';
 import { sure } from './question.js';
 import { chipOf } from './states.js';
+import { say } from './words.js';
 
 const MOST_OPEN = 10, MOST_OF_DAY = 40;
 const folded = new Map();     // days that were opened or shut by hand
@@ -14,15 +15,24 @@ const troubles = new Map();   // by key
 const bookings = new Map();   // what is known of a request here: whether it was withdrawn
 let isOpen = false;
 
-const HEADS = { lost: ['Lost its room', 'none'], moved: ['Moved', 'open'], found: ['Found a room', 'sure'], cancelled: ['Cancelled', 'cancelled'] };
-const slotText = slot => weekday(slot.day, 'short') + ' ' + slot.day + ' ' + slot.start + (slot.stop ? '–' + slot.stop : '');
+const HEADS = {
+  lost: [say('newslist.lost'), 'none'], moved: [say('newslist.moved'), 'open'], found: [say('newslist.found'), 'sure'], cancelled: [say('states.cancelled'), 'cancelled'],
+};
+const slotText = ({ day, start, stop }) => say('all.dayTime', { day: dayText(day, 'short'), time: start + (stop ? '–' + stop : '') });
 
 /** A change in words. */
 function changeText({ kind, from, to, by, wish }) {
-  if (kind === 'moved') return 'Moved from ' + slotText(from) + ' to ' + slotText(to) + '.';
-  if (kind === 'found') return 'It has a room by now: ' + slotText(to) + '.';
-  if (kind === 'cancelled') return (from ? 'It had ' + slotText(from) + ', and ' : 'It ') + 'was cancelled by another office (request ' + by + ').';
-  return from ? 'It had ' + slotText(from) + ', and lost it to an earlier request.' : wish ? 'It wanted ' + slotText(wish) + ', and has no room.' : 'It has no room.';
+  if (kind === 'moved') return say('all.moved', { from: slotText(from), to: slotText(to) });
+  if (kind === 'found') return say('newslist.hasRoom', { slot: slotText(to) });
+  if (kind === 'cancelled') return from ? say('newslist.hadCancelled', { slot: slotText(from), id: by }) : say('newslist.wasCancelled', { id: by });
+  return from ? say('newslist.hadLost', { slot: slotText(from) }) : wish ? say('newslist.wanted', { slot: slotText(wish) }) : say('newslist.noRoom');
+}
+
+/** All its changes, one after the other, and what may become of it. */
+function storyOf(entry, isWithdrawn) {
+  const changes = [...entry.before, entry].map(changeText).reduce((before, after) => say('newslist.then', { before, after }));
+  if (entry.kind === 'lost' && isWithdrawn) return changes + ' ' + say('newslist.withdrawn');
+  return entry.mark === 'C' ? changes : changes + ' ' + say(entry.kind === 'lost' ? 'newslist.mayGet' : 'newslist.mayChange');
 }
 
 /** The request as something that can be withdrawn, and, asked again, stands for another one. */
@@ -35,7 +45,7 @@ function bookingOf({ room, id, title, mark }) {
 const lengthOf = slot => slot.stop ? minuteOf(slot.stop) - minuteOf(slot.start) : 60;
 
 function keyed(entry, words, name, act) {
-  const button = buttonOf(words, act, { 'aria-label': words + ': ' + entry.title });
+  const button = buttonOf(words, act, { 'aria-label': say('all.labelled', { words, title: entry.title }) });
   button.dataset.key = name + ' ' + entry.key;
   return button;
 }
@@ -44,18 +54,16 @@ function buttonsOf(entry) {
   const slot = slotOf(entry), there = entry.to || slot, isGone = entry.kind === 'lost' || entry.kind === 'cancelled', booking = bookingOf(entry);
   const again = () => askAgain(booking, { day: slot.day, start: slot.start, length: lengthOf(slot) }, entry.kind === 'lost' && entry.mark === 'T');
   const isWaiting = entry.kind === 'lost' && entry.mark === 'T' && !booking.withdrawn;
-  return el('span', { className: 'buttons' }, isGone ? keyed(entry, 'Ask again', 'again', again) : null,
-    keyed(entry, 'Show the day', 'newsday', () => page.goTo({ day: there.day, room: entry.room, view: 'day' })),
-    isWaiting ? cancelButton(booking, 'Withdraw', (words, act) => keyed(entry, words, 'newswithdraw', act)) : null,
-    keyed(entry, 'I have told them', 'told', () => tellOf([entry])));
+  return el('span', { className: 'buttons' }, isGone ? keyed(entry, say('all.askAgain'), 'again', again) : null,
+    keyed(entry, say('all.showDay'), 'newsday', () => page.goTo({ day: there.day, room: entry.room, view: 'day' })),
+    isWaiting ? cancelButton(booking, say('all.withdraw'), (words, act) => keyed(entry, words, 'newswithdraw', act)) : null,
+    keyed(entry, say('newslist.told'), 'told', () => tellOf([entry])));
 }
 
 function itemOf(entry) {
   const [word, kind] = HEADS[entry.kind], booking = bookingOf(entry), trouble = troubles.get(entry.key) || troubleOf(booking);
-  const later = entry.kind === 'lost' && booking.withdrawn ? 'It is withdrawn.' : entry.mark === 'C' ? ''
-    : entry.kind === 'lost' ? 'It may still get a room until the offices have met.' : 'It may still change until the offices have met.';
   return el('li', {}, chipOf(word, kind), ' ', el('b', {}, entry.title), ' ',
-    el('span', {}, labelOf(entry.room) + ', request ' + entry.id + '. ' + [...entry.before, entry].map(changeText).join(' Then: ') + ' ' + later),
+    el('span', {}, say('newslist.request', { room: labelOf(entry.room), id: entry.id }) + ' ' + storyOf(entry, booking.withdrawn)),
     trouble ? el('span', { className: 'error' }, trouble) : null, buttonsOf(entry));
 }
 
@@ -66,24 +74,24 @@ async function tellOf(entries) {
 }
 
 async function tellDay(day, entries) {
-  const words = 'All ' + entries.length + ' of ' + weekday(day) + ' ' + day + ' were told? They leave the list at all desks of this office.';
-  if (await sure(words, 'All were told', 'No')) tellOf(entries);
+  const words = say('newslist.reallyAll', { number: entries.length, day: dayText(day) });
+  if (await sure(words, say('newslist.all'), say('all.no'))) tellOf(entries);
 }
 
 function dayItem(day, entries, isFew) {
   const isShown = folded.get(day) ?? isFew, count = whole.has(day) ? entries.length : MOST_OF_DAY;
-  const summary = el('summary', {}, weekday(day) + ' ' + day + ': ' + newsLine(entries));
+  const summary = el('summary', {}, say('newslist.day', { day: dayText(day), changes: newsLine(entries) }));
   summary.dataset.key = 'newsfold ' + day;
   summary.addEventListener('click', event => {
     event.preventDefault();
     folded.set(day, !isShown);
     showNews();
   });
-  const details = el('details', { open: isShown, 'aria-label': day }, summary);
+  const details = el('details', { open: isShown, 'aria-label': dateText(day) }, summary);
   if (!isShown) return details;
   details.append(el('ul', {}, ...entries.slice(0, count).map(itemOf)));
-  if (entries.length > count) details.append(buttonOf('Show ' + (entries.length - count) + ' more', () => { whole.add(day); showNews(); }));
-  if (entries.length > 1) details.append(buttonOf('I have told all ' + entries.length + ' of this day', () => tellDay(day, entries)));
+  if (entries.length > count) details.append(buttonOf(say('newslist.more', { number: entries.length - count }), () => { whole.add(day); showNews(); }));
+  if (entries.length > 1) details.append(buttonOf(say('newslist.toldAll', { number: entries.length }), () => tellDay(day, entries)));
   return details;
 }
 
@@ -107,7 +115,7 @@ export function showNews() {
   if (!entries.length) isOpen = false;
   byId('news').hidden = !isOpen;
   byId('bar-open').setAttribute('aria-expanded', isOpen);
-  put({ 'bar-words': line && line + '.', 'bar-open': isOpen ? 'Hide the list' : 'Show the list' });
+  put({ 'bar-words': line && say('newslist.bar', { changes: line }), 'bar-open': isOpen ? say('newslist.hide') : say('newslist.show') });
   renew(byId('news-days'), ...(isOpen ? daysOf(entries) : []));
   if (held && document.activeElement === document.body) focusAgain(held);
 }

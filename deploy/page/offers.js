@@ -1,8 +1,9 @@
 // What is free instead, after a request found no room; and the request that it stands in for, which is withdrawn once another is booked.
-import { byId, el, buttonOf, hoursText, minuteOf, nearestOf, timeOf, weekday } from './texts.js';
+import { byId, el, buttonOf, hoursText, minuteOf, nearestOf, timeOf, dayText } from './texts.js';
 import { Fault, askSheet, labelOf, office } from './office.js';
 import { sendCancel } from './cancel.js';
 import { sure } from './question.js';
+import { say } from './words.js';
 
 const MOST_OFFERS = 4;
 
@@ -26,9 +27,9 @@ export async function showOffers(place, wish, take) {
     const { rows } = await askSheet(name, wish.day).catch(unlessFault);
     const most = name === wish.room ? MOST_OFFERS : 1;
     const starts = rows ? nearestOf(rows, wish.length, minuteOf(wish.start), office.from, office.to).slice(0, most) : [];
-    if (starts.length) paragraphs.push(el('p', {}, el('b', {}, 'Free in ' + labelOf(name) + ': '), ...starts.map(start => offerButton(name, start, wish, take))));
+    if (starts.length) paragraphs.push(el('p', {}, el('b', {}, say('offers.freeIn', { room: labelOf(name) })), ' ', ...starts.map(start => offerButton(name, start, wish, take))));
   }
-  if (!paragraphs.length) paragraphs.push(el('p', {}, 'Nothing of that length is free on ' + weekday(wish.day) + ' ' + wish.day + ' in any room.'));
+  if (!paragraphs.length) paragraphs.push(el('p', {}, say('offers.none', { day: dayText(wish.day) })));
   place.replaceChildren(...paragraphs);
 }
 
@@ -39,7 +40,7 @@ function unlessFault(fault) {
 }
 
 function offerButton(room, start, wish, take) {
-  const words = { 'aria-label': 'Ask for ' + labelOf(room) + ', ' + timeOf(start) };
+  const words = { 'aria-label': say('all.askFor', { what: labelOf(room) + ', ' + timeOf(start) }) };
   return buttonOf(hoursText(start, start + wish.length), () => take(room, wish.day, start), words);
 }
 
@@ -49,13 +50,12 @@ export async function withdrawFirsts(title) {
   const isSure = isOffer && waiting.every(entry => entry.title === title);
   standsForNone();
   for (const entry of waiting) {
-    const words = 'Request ' + entry.now.id + ' (' + entry.title + ', ' + labelOf(entry.room) + ') has no room, and may still get one. ' +
-      'Withdraw it, now that another one is booked?';
-    if (isSure || await sure(words, 'Withdraw it', 'Leave it')) showWithdrawn(entry, await sendCancel(entry));
+    const words = say('offers.reallyWithdraw', { id: entry.now.id, title: entry.title, room: labelOf(entry.room) });
+    if (isSure || await sure(words, say('offers.withdraw'), say('all.leaveIt'))) showWithdrawn(entry, await sendCancel(entry));
   }
 }
 
 function showWithdrawn({ now }, done) {
-  const words = done || 'The request before, ' + now.id + ', is not withdrawn, and may still be booked too. Press Withdraw at it, under My requests.';
+  const words = done || say('offers.notWithdrawn', { id: now.id });
   byId('offers').append(el('p', { className: done ? 'good' : 'bad' }, words));
 }

@@ -1,11 +1,13 @@
 // The office, what it is asked, and what it answered last. The desk and the door know nothing of it but by these calls.
-import { clockOf, readErrors, readSheet, minuteOf, weekday } from './texts.js';
+import { clockOf, readErrors, readSheet, minuteOf, dayText } from './texts.js';
+import { officeSpeaks } from './language.js';
+import { say } from './words.js';
 import { keepSheet, keptNames, keptSheet } from './kept.js';
 
 const PATIENCE = 65000;
 
 /** What rooms.json says; `from` and `to` are minutes, `zone` is that of the rooms' clocks, `door` what tablets at doors may do. */
-export const office = { isKnown: false, name: 'Rooms', rooms: [], from: 420, to: 1200, zone: '', zoneTrouble: '', door: null };
+export const office = { isKnown: false, name: say('office.rooms'), rooms: [], from: 420, to: 1200, zone: '', zoneTrouble: '', door: null };
 /** What the address names. */
 export const at = { day: '', view: 'day', room: '' };
 /** How long nothing was heard, and why; `sent` in the cause: the office may have had the request nevertheless. */
@@ -22,7 +24,7 @@ export const clock = date => clockOf(date, office.zone).time;
 /** A moment in words: its time, and its day where that isn't today. */
 export function momentOf(date) {
   const { day, time } = clockOf(date, office.zone), today = now().day, short = time.slice(0, 5);
-  return day === today ? short : weekday(day, 'short') + ' ' + day + ' ' + short;
+  return day === today ? short : dayText(day, 'short') + ' ' + short;
 }
 export const labelOf = room => (office.rooms.find(each => each.name === room) || {}).label || room;
 
@@ -34,9 +36,9 @@ export function sinceOf(state) {
 
 // ---- asking
 
-/** No usable reply. `sent`: the office may have had the request nevertheless. */
+/** No usable reply. `sent`: the office may have had the request nevertheless; `isPause`: it takes none at the moment, as between two stretches of serving. */
 export class Fault extends Error {
-  constructor(sent, words) { super(words); this.sent = sent; }
+  constructor(sent, words, isPause = false) { super(words); Object.assign(this, { sent, isPause }); }
 }
 
 /** Whatever reply comes. */
@@ -47,19 +49,19 @@ export async function fetched(path, body, method = body === undefined ? 'GET' : 
     const reply = await fetch(new URL(path, location.origin), words);
     return { status: reply.status, text: await reply.text(), json: null };
   } catch {
-    throw new Fault(true, 'no reply');
+    throw new Fault(true, say('fault.noReply'));
   }
 }
 
 /** A reply with status 200, or a refusal of the office's; any other is a fault. */
 export async function ask(path, body) {
   const reply = await fetched(path, body);
-  if (reply.status === 401 || reply.status === 403) throw new Fault(false, 'the password was refused');
+  if (reply.status === 401 || reply.status === 403) throw new Fault(false, say('fault.password'));
   try { reply.json = JSON.parse(reply.text); } catch { /* a sheet, or a page of the proxy */ }
   const error = reply.json && reply.json.error;
-  if (error === 'not sent') throw new Fault(false, 'the office is not taking requests');
-  if (error === 'no reply') throw new Fault(true, 'no reply');
-  if (reply.status !== 200 && !(reply.json && reply.json.refusal) && error !== 'bad request') throw new Fault(true, 'status ' + reply.status);
+  if (error === 'not sent') throw new Fault(false, say('fault.notTaking'), true);
+  if (error === 'no reply') throw new Fault(true, say('fault.noReply'));
+  if (reply.status !== 200 && !(reply.json && reply.json.refusal) && error !== 'bad request') throw new Fault(true, say('fault.status', { status: reply.status }));
   if (path !== '/rooms.json') heard();
   return reply;
 }
@@ -83,7 +85,7 @@ let may = false;
 export async function askMayBook() {
   if (may) return;
   const reply = await fetched('/submit').catch(fault => { throw new Fault(false, fault.message); });
-  if (reply.status === 401 || reply.status === 403) throw new Fault(false, 'this user may not book, or the password was refused');
+  if (reply.status === 401 || reply.status === 403) throw new Fault(false, say('fault.mayNotBook'));
   may = reply.status === 405;
 }
 
@@ -105,21 +107,22 @@ export const putMark = path => putText(path, '');
 export async function putText(path, text) {
   await askMayBook();
   const reply = await fetched(path, text, 'PUT');
-  if (reply.status === 401 || reply.status === 403) throw new Fault(false, 'the password was refused');
-  if (reply.status !== 201 && reply.status !== 204) throw new Fault(true, 'status ' + reply.status);
+  if (reply.status === 401 || reply.status === 403) throw new Fault(false, say('fault.password'));
+  if (reply.status !== 201 && reply.status !== 204) throw new Fault(true, say('fault.status', { status: reply.status }));
 }
 
 /** A refusal that is about the office's state, where a sheet or an outcome was asked for. */
 function unlessFailing(reply) {
-  if (reply.status === 503) throw new Fault(true, 'its store or memory fails: ' + reply.json.name);
+  if (reply.status === 503) throw new Fault(true, say('fault.failing', { cause: reply.json.name }));
   return reply;
 }
 
 export async function askOffice() {
   const reply = await ask('/rooms.json'), words = reply.json;
-  if (reply.status !== 200 || !words) throw new Fault(false, 'rooms.json is no JSON');
+  if (reply.status !== 200 || !words) throw new Fault(false, say('fault.noRooms'));
+  officeSpeaks(words.language);
   office.isKnown = true;
-  office.name = words.office || 'Rooms';
+  office.name = words.office || say('office.rooms');
   office.rooms = words.rooms || [];
   office.door = words.door || null;
   if (words.from) office.from = minuteOf(words.from);
@@ -177,7 +180,7 @@ export async function askOutcome(room, id) {
 /** The lines of the error log of a room. */
 export async function askErrors(room) {
   const reply = unlessFailing(await ask('/rooms/' + room + '/errors'));
-  if (reply.status !== 200) return ['(the room is not known here)'];
+  if (reply.status !== 200) return [say('office.notKnownHere')];
   const lines = reply.text.split('\n').slice(1).filter(line => line);
   errors.set(room, { ...readErrors(lines), at: new Date() });
   return lines;

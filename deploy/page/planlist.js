@@ -1,8 +1,9 @@
 // The list of a plan: what is free, what is taken and by what, what came of each request; by state, the long parts folded.
-import { el, buttonOf, minuteOf, nearestOf, hoursText, renew, byId, timeOf, weekday } from './texts.js';
+import { el, buttonOf, minuteOf, nearestOf, hoursText, renew, byId, timeOf, dateText, dayText } from './texts.js';
 import { Fault, askSheet, labelOf, office } from './office.js';
 import { hoursOfItem, mayAsk, STATES } from './plan.js';
 import { chipOf } from './states.js';
+import { say } from './words.js';
 
 export const FEW = 5;
 const MOST_OPEN = 40, MOST_SHOWN = 100, MOST_OFFERS = 3;
@@ -29,16 +30,23 @@ function partOf(state, own, act, isGoing) {
   details.dataset.state = state;
   if (isOpen) details.append(el('ul', {}, ...own.slice(0, count).map(item => rowOf(item, act, isGoing))));
   if (isOpen && own.length > count) {
-    details.append(buttonOf('Show more of ' + own.length, () => { shown.set(state, count + MOST_SHOWN); act.show(); }));
+    details.append(buttonOf(say('planlist.more', { of: own.length }), () => { shown.set(state, count + MOST_SHOWN); act.show(); }));
   }
   return details;
 }
 
-const whenOf = item => weekday(item.day, 'short') + ' ' + item.day + ' ' + hoursOfItem(item);
+const whenOf = item => ({ day: dayText(item.day, 'short'), hours: hoursOfItem(item) });
+
+/** What is in the way of an item or came of it, and what is to be known of it; the office's own words of a refusal are a sentence already. */
+function reasonOf({ state, words, note }) {
+  if (words && note && state !== 'refused') return say('planlist.reasons', { words, note });
+  return [words && state !== 'refused' ? say('planlist.reason', { words }) : words, note && say('planlist.reason', { words: note })].filter(each => each).join(' ');
+}
 
 function rowOf(item, act, isGoing) {
-  const what = item.state === 'bad' ? item.title : whenOf(item) + ', ' + labelOf(item.room) + ', ' + item.title, words = (item.line ? 'Line ' + item.line + ': ' : '') + what;
-  const said = [item.words, item.note].filter(each => each).join('; '), reason = said ? el('span', { className: 'hint' }, ' ' + said + '.') : null;
+  const what = item.state === 'bad' ? item.title : say('planlist.item', { ...whenOf(item), room: labelOf(item.room), title: item.title });
+  const words = item.line ? say('planlist.line', { line: item.line, what }) : what;
+  const said = reasonOf(item), reason = said ? el('span', { className: 'hint' }, ' ' + said) : null;
   if (!mayAsk(item) || isGoing) return el('li', {}, words, reason, offersOf(item, act, isGoing));
   const box = el('input', { type: 'checkbox', defaultChecked: item.isWanted, checked: item.isWanted });
   box.dataset.key = 'tick ' + item.room + item.day + item.start;
@@ -51,14 +59,14 @@ function offersOf(item, act, isGoing) {
   if (isGoing || !['clash', 'none'].includes(item.state)) return null;
   const free = offers.get(item);
   if (!free) {
-    const button = buttonOf('What is free?', async () => { await offerFor([item]); act.show(); }, { 'aria-label': 'What is free? ' + whenOf(item) });
+    const button = buttonOf(say('planlist.whatIsFree'), async () => { await offerFor([item]); act.show(); }, { 'aria-label': say('planlist.whatIsFreeAt', whenOf(item)) });
     button.dataset.key = 'free ' + item.room + item.day + item.start;
     return button;
   }
-  if (!free.length) return el('span', { className: 'hint' }, ' Nothing of that length is free on that day.');
+  if (!free.length) return el('span', { className: 'hint' }, ' ' + say('planlist.nothing'));
   return el('span', { className: 'buttons' }, ...free.map(slot => {
-    const words = labelOf(slot.room) + ' ' + hoursText(minuteOf(slot.start), minuteOf(slot.start) + item.length);
-    const label = (item.state === 'none' ? 'Ask for ' : 'Take ') + item.day + ', ' + words;
+    const words = say('planlist.slot', { room: labelOf(slot.room), hours: hoursText(minuteOf(slot.start), minuteOf(slot.start) + item.length) });
+    const label = say(item.state === 'none' ? 'planlist.askFor' : 'planlist.take', { date: dateText(item.day), slot: words });
     const button = buttonOf(words, () => { offers.delete(item); act.take(item, slot); }, { 'aria-label': label });
     button.dataset.key = 'offer ' + item.day + words;
     return button;

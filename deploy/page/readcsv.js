@@ -1,5 +1,6 @@
 // The lines of a CSV file as wishes. Its first line names the columns; commas, semicolons or tabs stand between the cells.
 import { dayWritten, hoursWritten } from './written.js';
+import { say } from './words.js';
 
 /** What a column may be called. */
 const NAMES = {
@@ -48,7 +49,7 @@ function columnsOf(cells) {
 export function wishesOfCsv(text) {
   const [head, ...rows] = rowsOf(text), columns = head ? columnsOf(head.cells) : {};
   if (!head || ['day', 'start', 'title'].some(name => columns[name] < 0) || (columns.stop < 0 && columns.length < 0)) {
-    return { wishes: [], trouble: 'The first line has to name the columns: room, day, start, stop or length, title, and id if there is one.' };
+    return { wishes: [], trouble: say('readcsv.head') };
   }
   return { wishes: rows.map(row => wishOf(row, columns)), trouble: '' };
 }
@@ -58,9 +59,9 @@ function wishOf({ line, cells, isOpen }, columns) {
   const cell = name => columns[name] < 0 ? '' : cells[columns[name]] || '';
   const wish = { line, place: cell('room'), day: dayWritten(cell('day')), title: cell('title').replace(/\s+/g, ' '), key: cell('id'), start: '', length: 0 };
   const hours = hoursWritten(cell('start'), cell('stop'), cell('length')), endDay = cell('endDay');
-  if (isOpen) return { ...wish, trouble: 'its quotes are not closed, and all that follows is within them' };
-  if (cells.length > columns.of) return { ...wish, trouble: 'it has ' + cells.length + ' cells, and the first line ' + columns.of };
-  if (!wish.day) return { ...wish, trouble: '“' + cell('day') + '” is no day as 2026-06-30 or 30.6.2026' };
-  if (endDay && dayWritten(endDay) !== wish.day) return { ...wish, trouble: 'it ends on another day' };
+  if (isOpen) return { ...wish, trouble: say('readcsv.open') };
+  if (cells.length > columns.of) return { ...wish, trouble: say('readcsv.cells', { cells: cells.length, columns: columns.of }) };
+  if (!wish.day) return { ...wish, trouble: say('readcsv.noDay', { text: cell('day') }) };
+  if (endDay && dayWritten(endDay) !== wish.day) return { ...wish, trouble: say('readcsv.otherDay') };
   return { ...wish, ...hours };
 }

@@ -2,6 +2,7 @@
 import { dayBeside, minuteOf } from './texts.js';
 import { now, office } from './office.js';
 import { daysOfRule } from './recurs.js';
+import { say } from './words.js';
 import { elsewhere, minutesOf, zoneNamed } from './zones.js';
 
 const YEAR = 366;
@@ -51,13 +52,13 @@ function eventsOf(text) {
 /** The moment that a property names, by its own clock and by that of the rooms; or what is wrong with it. */
 function momentOf({ parameters, value }) {
   const [, year, month, day, hour, minute, second, isUtc] = /^(\d{4})(\d\d)(\d\d)(?:T(\d\d)(\d\d)(\d\d)(Z)?)?$/.exec(value) || [];
-  if (!year) return { trouble: '“' + value + '” is no moment' };
+  if (!year) return { trouble: say('readical.noMoment', { value }) };
   const wall = year + '-' + month + '-' + day, isDay = Date.parse(wall + 'T00:00:00Z') && new Date(wall + 'T00:00:00Z').toISOString().startsWith(wall);
-  if (!isDay || hour > 23 || minute > 59) return { trouble: '“' + value + '” is no moment' };
-  if (hour === undefined) return { trouble: 'it is of whole days, and a booking has hours' };
-  if (second !== '00') return { trouble: 'it does not begin and end at a whole minute' };
+  if (!isDay || hour > 23 || minute > 59) return { trouble: say('readical.noMoment', { value }) };
+  if (hour === undefined) return { trouble: say('readical.wholeDays') };
+  if (second !== '00') return { trouble: say('readical.seconds') };
   const name = isUtc ? 'UTC' : parameters.TZID || '', zone = name ? zoneNamed(name) : office.zone;
-  if (name && !zone) return { trouble: 'its zone “' + name + '” is not known' };
+  if (name && !zone) return { trouble: say('readical.zone', { name }) };
   return { day: wall, time: hour + ':' + minute, zone };
 }
 
@@ -70,8 +71,8 @@ function durationOf(text) {
 
 /** How long an event is, by its own clock; or what is wrong with it. */
 function lengthOf(event, begin) {
-  if (event.DURATION) return durationOf(event.DURATION.value) > 0 ? { length: durationOf(event.DURATION.value) } : { trouble: '“' + event.DURATION.value + '” is no duration' };
-  if (!event.DTEND) return { trouble: 'it has neither an end nor a duration' };
+  if (event.DURATION) return durationOf(event.DURATION.value) > 0 ? { length: durationOf(event.DURATION.value) } : { trouble: say('readical.noDuration', { value: event.DURATION.value }) };
+  if (!event.DTEND) return { trouble: say('readical.noEnd') };
   const end = momentOf(event.DTEND);
   if (end.trouble) return end;
   const at = elsewhere(end.day, end.time, end.zone, begin.zone);
@@ -82,8 +83,8 @@ function lengthOf(event, begin) {
 function wishAt(event, begin, day, length, key) {
   const wish = { line: event.line, place: event.LOCATION ? wordsOf(event.LOCATION.value) : '', title: event.SUMMARY ? wordsOf(event.SUMMARY.value) : '', key };
   const at = elsewhere(day, begin.time, begin.zone, office.zone), whole = { ...wish, day: at.day, start: at.time, length };
-  if (length < 1) return { ...whole, trouble: 'it ends before it begins' };
-  return minuteOf(at.time) + length > 1440 ? { ...whole, trouble: 'it goes on over midnight, and a booking ends there at the latest' } : whole;
+  if (length < 1) return { ...whole, trouble: say('all.backwards') };
+  return minuteOf(at.time) + length > 1440 ? { ...whole, trouble: say('readical.midnight') } : whole;
 }
 
 const nameOf = (uid, begin, day) => uid + '@' + day + 'T' + begin.time;
@@ -91,21 +92,21 @@ const nameOf = (uid, begin, day) => uid + '@' + day + 'T' + begin.time;
 /** The wishes of an event: one, or one for each time that it recurs, but for those that are left out or that other events of the file stand for. */
 function wishesOf(event, others) {
   const bad = trouble => [{ line: event.line, place: '', title: event.SUMMARY ? wordsOf(event.SUMMARY.value) : '', day: '', start: '', length: 0, key: '', trouble }];
-  if (event.kind !== 'VEVENT') return bad('a ' + event.kind + ' is no meeting');
-  if (!event.isWhole) return bad('it is cut off');
-  if (event.STATUS && event.STATUS.value.toUpperCase() === 'CANCELLED') return event['RECURRENCE-ID'] ? [] : bad('it is cancelled');
-  if (!event.DTSTART) return bad('it has no start');
+  if (event.kind !== 'VEVENT') return bad(say('readical.notMeeting', { kind: event.kind }));
+  if (!event.isWhole) return bad(say('readical.cutOff'));
+  if (event.STATUS && event.STATUS.value.toUpperCase() === 'CANCELLED') return event['RECURRENCE-ID'] ? [] : bad(say('readical.cancelled'));
+  if (!event.DTSTART) return bad(say('readical.noStart'));
   const begin = momentOf(event.DTSTART), uid = event.UID ? event.UID.value : '';
   if (begin.trouble) return bad(begin.trouble);
   const { length, trouble } = lengthOf(event, begin);
   if (trouble) return bad(trouble);
-  if (event.hasMore || event.lists.RDATE.length) return bad('it recurs by more than one rule, which can’t be read here');
+  if (event.hasMore || event.lists.RDATE.length) return bad(say('readical.rules'));
   if (!event.RRULE) return [wishAt(event, begin, begin.day, length, uid && (event['RECURRENCE-ID'] ? uid + '@' + event['RECURRENCE-ID'].value : uid))];
   const today = now().day, { days, isEndless, trouble: ofRule } = daysOfRule(event.RRULE.value, begin.day, dayBeside(today > begin.day ? today : begin.day, YEAR));
   if (ofRule) return bad(ofRule);
   const left = new Set([...event.lists.EXDATE, ...others].flatMap(part => part.value.split(',').map(value => keyOfMoment({ ...part, value }, begin))));
   return days.filter(day => !left.has(day + ' ' + begin.time))
-    .map(day => ({ ...wishAt(event, begin, day, length, uid && nameOf(uid, begin, day)), ...isEndless ? { note: 'it recurs without an end: those of a year are in the list' } : {} }));
+    .map(day => ({ ...wishAt(event, begin, day, length, uid && nameOf(uid, begin, day)), ...isEndless ? { note: say('readical.endless') } : {} }));
 }
 
 /** A moment that is left out, by the clock of the event. */
@@ -118,7 +119,7 @@ function keyOfMoment(part, begin) {
 
 export function wishesOfIcal(text) {
   const events = eventsOf(text);
-  if (!/^BEGIN:VCALENDAR/i.test(text.trimStart()) || !events.length) return { wishes: [], trouble: 'The file has no event.' };
+  if (!/^BEGIN:VCALENDAR/i.test(text.trimStart()) || !events.length) return { wishes: [], trouble: say('readical.none') };
   const overrides = new Map();
   for (const event of events) {
     const uid = event['RECURRENCE-ID'] && event.UID && event.UID.value;

@@ -2,6 +2,7 @@
 // day or so many times.
 import { dayBeside } from './texts.js';
 import { numberOf } from './series.js';
+import { say } from './words.js';
 
 const DAYS = ['MO', 'TU', 'WE', 'TH', 'FR', 'SA', 'SU'], KNOWN = ['FREQ', 'INTERVAL', 'COUNT', 'UNTIL', 'BYDAY', 'BYMONTHDAY', 'BYMONTH', 'WKST'];
 export const MOST_TIMES = 1000;
@@ -12,11 +13,11 @@ const lengthOfMonth = (year, month) => new Date(Date.UTC(year, month, 0)).getUTC
 function readRule(text) {
   const rule = Object.fromEntries(text.toUpperCase().split(';').filter(part => part).map(part => part.split('=')));
   const strange = Object.keys(rule).find(name => !KNOWN.includes(name));
-  if (strange) return { trouble: 'its rule has ' + strange + ', which can’t be read here' };
-  if (!['DAILY', 'WEEKLY', 'MONTHLY', 'YEARLY'].includes(rule.FREQ)) return { trouble: 'its rule has no such FREQ: ' + rule.FREQ };
+  if (strange) return { trouble: say('recurs.strange', { part: strange }) };
+  if (!['DAILY', 'WEEKLY', 'MONTHLY', 'YEARLY'].includes(rule.FREQ)) return { trouble: say('recurs.freq', { freq: rule.FREQ }) };
   const weekdays = (rule.BYDAY || '').split(',').filter(part => part).map(part => /^([+-]?\d{1,2})?(MO|TU|WE|TH|FR|SA|SU)$/.exec(part));
   const isStrange = weekdays.includes(null) || (rule.FREQ !== 'MONTHLY' && weekdays.some(part => part[1])) || (rule.FREQ === 'YEARLY' && (rule.BYDAY || rule.BYMONTHDAY));
-  if (isStrange || !/^[1-9]\d{0,2}$/.test(rule.INTERVAL || '1') || !/^\d{1,6}$/.test(rule.COUNT || '1')) return { trouble: 'its rule can’t be read here' };
+  if (isStrange || !/^[1-9]\d{0,2}$/.test(rule.INTERVAL || '1') || !/^\d{1,6}$/.test(rule.COUNT || '1')) return { trouble: say('recurs.unreadable') };
   return { rule: { freq: rule.FREQ, every: Number(rule.INTERVAL || 1), count: rule.COUNT ? Number(rule.COUNT) : Infinity,
     until: rule.UNTIL ? rule.UNTIL.slice(0, 4) + '-' + rule.UNTIL.slice(4, 6) + '-' + rule.UNTIL.slice(6, 8) : '', monday: DAYS.indexOf(rule.WKST || 'MO') + 1,
     weekdays: weekdays.map(part => ({ turn: Number(part[1] || 0), number: DAYS.indexOf(part[2]) + 1 })),
@@ -57,7 +58,7 @@ export function daysOfRule(text, first, horizon) {
       counted += 1;
       if (day > last || counted > rule.count) return { days, isEndless, trouble: '' };
       days.push(day);
-      if (days.length > MOST_TIMES) return { days: [], trouble: 'it recurs more than ' + MOST_TIMES + ' times' };
+      if (days.length > MOST_TIMES) return { days: [], trouble: say('recurs.often', { most: MOST_TIMES }) };
     }
     if (dayBeside(first, turn * rule.every * { DAILY: 1, WEEKLY: 7, MONTHLY: 28, YEARLY: 365 }[rule.freq]) > last) break;
     if (dayBeside(first, turn * rule.every) >= '2099-12-31') break;

@@ -1,16 +1,20 @@
 // A run: the requests of a plan are sent one by one, can be stopped, and are kept as a group at the office.
+import { dateText } from './texts.js';
 import { Fault, labelOf } from './office.js';
 import { keepGroup, nameOfGroup } from './groups.js';
 import { dropRun, isDone, isSending, keepRun } from './journal.js';
+import { forgetAddress, handOver } from './mail.js';
 import { mayAsk } from './plan.js';
 import { lookFor, sendRequest } from './sending.js';
+import { say } from './words.js';
 
 const EVERY = 25;
 
-/** The run of this page: what is asked for, how far it is, and what went wrong. `show` is called whenever something changed. */
+/** The run of this page: what is asked for, how far it is, and what went wrong: `trouble` is a sentence, `keepTrouble` a cause. `show` is called whenever something changed. */
 export const run = { name: '', title: '', made: '', items: [], done: 0, of: 0, isGoing: false, isStopped: false, trouble: '', keepTrouble: '', show() {} };
 
 export function begin(title, items) {
+  forgetAddress('plan-mail');
   Object.assign(run, { name: nameOfGroup(items), title, made: new Date().toISOString(), items, done: 0, of: 0, isStopped: false, trouble: '', keepTrouble: '' });
 }
 
@@ -45,21 +49,23 @@ async function askOne(item) {
   const place = run.items.indexOf(item);
   isSending(place);
   try {
-    take(item, await sendRequest(slotOf(item), () => run.isStopped));
+    await take(item, await sendRequest(slotOf(item), () => run.isStopped));
   } catch (fault) {
     if (!(fault instanceof Fault)) throw fault;
-    run.trouble = fault.message + '. Nothing was sent for ' + nameOf(item);
+    run.trouble = say('run.notSent', { cause: fault.message, item: nameOf(item) });
   }
   isDone(place, item);
 }
 
-export const nameOf = item => item.title + ', ' + labelOf(item.room) + ', ' + item.day + ' ' + item.start;
+const nameOf = ({ title, room, day, start }) => say('run.item', { title, room: labelOf(room), date: dateText(day), start });
 
-function take(item, { kind, outcome, words, isLast }) {
+async function take(item, { kind, outcome, words, isLast }) {
   Object.assign(item, { state: kind, words, isWanted: false });
   if (outcome) Object.assign(item, { id: outcome.id, mark: outcome.mark });
-  if (isLast) run.trouble = words.replace(/\.$/, '');
-  if (kind === 'perhaps') run.trouble = 'No reply (' + words + ') to the request for ' + nameOf(item) + ', which is not on the sheet now. Look at the sheet before you go on';
+  if (isLast) run.trouble = words;
+  if (kind === 'perhaps') run.trouble = say('run.noReply', { cause: words, item: nameOf(item) });
+  const cause = outcome ? await handOver(outcome, 'plan-mail') : null;
+  if (cause) item.words = say('run.noMails', { cause });
 }
 
 /** Takes up a run that was broken off: what was under way is looked for. */
@@ -75,8 +81,8 @@ export async function takeUp(broken) {
 export async function lookAgain(item) {
   try {
     const outcome = await lookFor(slotOf(item));
-    if (outcome) take(item, { kind: outcome.state === 'booked' ? 'booked' : 'none', outcome, words: '' });
-    else Object.assign(item, { state: 'free', isWanted: true, words: 'it was not asked for' });
+    if (outcome) await take(item, { kind: outcome.state === 'booked' ? 'booked' : 'none', outcome, words: '' });
+    else Object.assign(item, { state: 'free', isWanted: true, words: say('run.notAsked') });
   } catch (fault) {
     if (!(fault instanceof Fault)) throw fault;
     Object.assign(item, { state: 'perhaps', words: fault.message });

@@ -1,6 +1,7 @@
 // Titles that are searched for, over the sheets that this browser has read: those of this page, and those that it kept of earlier times.
-import { byId, el, buttonOf, hoursText, put, renew, weekday } from './texts.js';
+import { byId, el, buttonOf, hoursText, put, renew, dateText, dayText } from './texts.js';
 import { knownSheets, labelOf, page } from './office.js';
+import { say } from './words.js';
 
 const MOST = 100;
 
@@ -11,17 +12,17 @@ function marked(title, wanted) {
 }
 
 function itemOf({ room, day, row }, wanted) {
-  const words = weekday(day, 'short') + ' ' + day + ', ' + hoursText(row.start, row.stop) + ', ' + labelOf(room);
-  return el('li', {}, marked(row.title, wanted), el('span', {}, ' ' + words + ' '),
-    buttonOf('Show the day', () => page.goTo({ day, room, view: 'day' }), { 'aria-label': 'Show the day: ' + row.title + ', ' + words }));
+  const where = [dayText(day, 'short'), hoursText(row.start, row.stop), labelOf(room)].join(', ');
+  return el('li', {}, marked(row.title, wanted), el('span', {}, ' ' + where + ' '),
+    buttonOf(say('all.showDay'), () => page.goTo({ day, room, view: 'day' }), { 'aria-label': say('search.showOf', { title: row.title, where }) }));
 }
 
 export function showSearch() {
-  const wanted = byId('search-for').value.trim().toLowerCase(), sheets = knownSheets(), days = new Set(sheets.map(sheet => sheet.day));
+  const wanted = byId('search-for').value.trim().toLowerCase(), sheets = knownSheets();
+  const days = [...new Set(sheets.map(sheet => sheet.day))].sort(), span = days.length ? { from: dateText(days[0]), to: dateText(days.at(-1)) } : {};
   const found = wanted ? sheets.flatMap(({ room, day, rows }) => rows.filter(row => row.title.toLowerCase().includes(wanted)).map(row => ({ room, day, row }))) : [];
   found.sort((one, other) => (one.day + String(one.row.start).padStart(4, '0')).localeCompare(other.day + String(other.row.start).padStart(4, '0')));
-  put({ 'search-words': !wanted ? '' : (found.length || 'Nothing') + ' found' + (found.length > MOST ? '; the first ' + MOST + ' are shown' : '') + '.',
-    'search-hint': 'Looks through what this browser has read: ' + sheets.length + ' sheets of ' + days.size + ' days' +
-      (days.size ? ', from ' + [...days].sort()[0] + ' to ' + [...days].sort().at(-1) : '') + '. A month or the coming bookings of a room, once shown, add theirs.' });
+  put({ 'search-words': !wanted ? '' : say(found.length > MOST ? 'search.foundMore' : 'search.found', { count: found.length, shown: MOST }),
+    'search-hint': say('search.hint', { count: sheets.length, days: say('search.days', { count: days.length }), ...span }) });
   renew(byId('search-found'), ...found.slice(0, MOST).map(each => itemOf(each, wanted)));
 }

@@ -3,6 +3,7 @@
 import { minuteOf, timeOf } from './texts.js';
 import { Fault, ask, askErrors, askMayBook, askSheet } from './office.js';
 import { REFUSALS } from './form.js';
+import { say } from './words.js';
 
 const PAUSE = 1000, TRIES = 60;
 
@@ -14,19 +15,20 @@ export async function patiently(act, isStopped = () => false) {
     try {
       return await act();
     } catch (fault) {
-      if (!(fault instanceof Fault) || fault.sent || !/not taking/.test(fault.message) || !left || isStopped()) throw fault;
+      if (!(fault instanceof Fault) || fault.sent || !fault.isPause || !left || isStopped()) throw fault;
       await pause();
     }
   }
 }
 
-/** Sends a request: `booked` or `none` with the office's outcome, `refused` or `perhaps` with words; `isLast`: so will all others be. A fault means that it was not sent. */
+/** Sends a request: `booked` or `none` with the office's outcome, `refused` with a sentence, `perhaps` with a cause; `isLast`: so will all others be. A fault means that it was not sent. */
 export async function sendRequest(asked, isStopped) {
   await askMayBook();
   try {
     const { status, json } = await patiently(() => ask('/submit', JSON.stringify(asked)), isStopped);
     if (status === 200) return { kind: json.state === 'booked' ? 'booked' : 'none', outcome: json, words: '' };
-    if (status !== 503) return { kind: 'refused', outcome: null, isLast: [13, 14].includes(json.refusal), words: (REFUSALS[json.refusal] || [])[1] || json.name || 'it cannot be read' };
+    const refusal = REFUSALS[json.refusal], words = refusal ? refusal[1] : say('sending.refused', { cause: json.name || say('fault.unreadable') });
+    if (status !== 503) return { kind: 'refused', outcome: null, isLast: [13, 14].includes(json.refusal), words };
     return await found(asked, json.name);
   } catch (fault) {
     if (!(fault instanceof Fault) || !fault.sent) throw fault;

@@ -1,21 +1,21 @@
 // The states of requests in a desk's words.
 import { byId, el } from './texts.js';
+import { say } from './words.js';
 
 /** A state in a word, its class, and the sentence that goes with it. `withdrawn` is the cancel of a request that had no room. */
 export function stateOf(outcome, withdrawn) {
-  if (!outcome) return ['Not known', 'none', 'This office does not know the request any more. Tell the operator.'];
+  if (!outcome) return [say('states.unknown'), 'none', say('states.knownNoMore')];
   const final = outcome.mark === 'C';
   if (outcome.state === 'logged') return withoutRoom(final, withdrawn);
   if (outcome.state === 'cancelled') {
-    return ['Cancelled', 'cancelled', 'Request ' + outcome.by + ' cancelled it' + (outcome.bymark === 'C' ? '.' : '; not final yet.')];
+    return [say('states.cancelled'), 'cancelled', say(outcome.bymark === 'C' ? 'states.cancelledBy' : 'states.cancelledByOpen', { id: outcome.by })];
   }
-  return final ? ['Booked', 'sure', ''] : ['Booked, not final yet', 'open', 'It may still move until the offices have met.'];
+  return final ? [say('states.booked'), 'sure', ''] : [say('states.notFinal'), 'open', say('states.mayMove')];
 }
 
 function withoutRoom(final, withdrawn) {
-  if (withdrawn) return ['Withdrawn', 'cancelled', 'Request ' + withdrawn + ' withdrew it: it had no room, and gets none any more.'];
-  if (final) return ['No room', 'none', 'All its hours were taken.'];
-  return ['No room', 'none', 'All its hours are taken. It may still get a room until the offices have met; if you can do without it, withdraw it.'];
+  if (withdrawn) return [say('states.withdrawn'), 'cancelled', say('states.withdrawnBy', { id: withdrawn })];
+  return [say('states.noRoom'), 'none', say(final ? 'states.wereTaken' : 'states.areTaken')];
 }
 
 export const chipOf = (word, kind) => el('span', { className: 'state ' + kind }, word);

@@ -1,6 +1,7 @@
 // What a tablet at a door may ask of the office, by a password of its own: to book its room from now on, to take back a request of that room,
 // and to mark one as checked in. The proxy writes the program's request from the path; nothing else can be asked this way.
 import { Fault, ask, askFile, fetched, office } from './office.js';
+import { say } from './words.js';
 
 export const LENGTHS = [15, 30, 60];
 
@@ -17,8 +18,8 @@ export const askCancel = (room, id) => ask('/door/' + room + '/cancel/' + id, ''
 /** Marks that somebody has checked in. It may be marked again. */
 export async function markHere(room, id) {
   const { status } = await fetched('/door/' + room + '/here/' + id, '', 'PUT');
-  if (status === 401 || status === 403) throw new Fault(false, 'the password was refused');
-  if (status !== 201 && status !== 204) throw new Fault(true, 'status ' + status);
+  if (status === 401 || status === 403) throw new Fault(false, say('fault.password'));
+  if (status !== 201 && status !== 204) throw new Fault(true, say('fault.status', { status }));
 }
 
 /** The ids of the requests of this room that somebody has checked in to; null where nobody can say. */

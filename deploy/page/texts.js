@@ -1,5 +1,7 @@
 // What the desk and the door share and what needs no reply: elements, days, times, titles, and the lines of a sheet.
 // A time of day is a number of minutes from midnight; a day is a text as 1995-12-18.
+import { firstWeekday, language, locale } from './language.js';
+import { say } from './words.js';
 
 export const FIRST = '1990-01-01', LAST = '2099-12-31', MIDNIGHT = 1440;
 
@@ -40,8 +42,15 @@ const two = number => String(number).padStart(2, '0');
 export const minuteOf = text => 60 * Number(text.slice(0, 2)) + Number(text.slice(3, 5));
 export const timeOf = minute => two(Math.floor(minute / 60)) + ':' + two(minute % 60);
 export const hoursText = (start, stop) => timeOf(start) + '–' + timeOf(stop);
-const noonOf = day => new Date(day + 'T12:00:00Z');
-export const weekday = (day, length) => noonOf(day).toLocaleDateString('en-GB', { weekday: length || 'long', timeZone: 'UTC' });
+export const noonOf = day => new Date(day + 'T12:00:00Z');
+export const weekday = (day, length) => noonOf(day).toLocaleDateString(locale, { weekday: length || 'long', timeZone: 'UTC' });
+
+/** A day as it is written: 1995-12-18 in English, whose readers don't agree on another way, else by the language, as 18.12.1995. */
+export const dateText = day => language === 'en' || !isDay(day) ? day
+  : noonOf(day).toLocaleDateString(locale, { year: 'numeric', month: '2-digit', day: '2-digit', timeZone: 'UTC' });
+
+/** With its day of the week, as Monday 1995-12-18. */
+export const dayText = (day, length) => say('texts.day', { weekday: weekday(day, length), date: dateText(day) });
 
 export function isDay(text) {
   const date = noonOf(text);
@@ -55,10 +64,12 @@ export function dayBeside(day, step) {
   return beside < FIRST ? FIRST : beside > LAST ? LAST : beside;
 }
 
-/** The days from Monday to Sunday of the week of this day. */
+/** How many days of its week are before this one; which day a week begins with goes by the language and its region. */
+export const placeInWeek = day => (noonOf(day).getUTCDay() + 7 - firstWeekday) % 7;
+
+/** The days of the week of this day. */
 export function weekOf(day) {
-  const monday = -((noonOf(day).getUTCDay() + 6) % 7);
-  return [...new Set([0, 1, 2, 3, 4, 5, 6].map(step => dayBeside(day, monday + step)))];
+  return [...new Set([0, 1, 2, 3, 4, 5, 6].map(step => dayBeside(day, step - placeInWeek(day))))];
 }
 
 /** The day and the minute of this moment by the clocks of a zone, and its time in words; without a zone by this machine's clock. */

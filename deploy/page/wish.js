@@ -1,16 +1,17 @@
 // The wish and its alternatives: how they are chosen, and what the form shows of them.
-import { byId, el, buttonOf, clashesOf, hoursText, isDay, isPlain, MIDNIGHT, minuteOf, plainOf, put, renew, timeOf, weekday } from './texts.js';
+import { byId, el, buttonOf, clashesOf, hoursText, isDay, isPlain, MIDNIGHT, minuteOf, plainOf, put, renew, timeOf, dateText, dayText } from './texts.js';
 import { labelOf, now, page, sheetOf } from './office.js';
 import { calm } from './fields.js';
 import { offerTaken, showOffers, standsFor, standsForNone } from './offers.js';
 import { sure } from './question.js';
 import { report, reportNoMore } from './states.js';
+import { say } from './words.js';
 
 export const LONGEST = 60;
 let alternatives = [];
 
 export const sameSlot = (one, other) => one.day === other.day && one.start === other.start;
-export const slotText = slot => slot.day + ' ' + slot.start;
+export const slotText = slot => say('all.slot', { date: dateText(slot.day), start: slot.start });
 const wish = () => ({ day: byId('wish-day').value, start: byId('wish-start').value });
 export const isWished = () => wish().day !== '' && wish().start !== '';
 export const lengthOf = () => /^[0-9]{1,9}$/.test(byId('length').value.trim()) ? Number(byId('length').value) : 0;
@@ -21,10 +22,10 @@ export function slots() {
   return alternatives.length ? { ...asked, alternatives } : asked;
 }
 
-/** The slots that are asked for, the wish first, with their hours as far as they are filled in. */
+/** The slots that are asked for, the wish first, which is number 0, with their hours as far as they are filled in. */
 export function choices() {
-  const length = lengthOf() || 15, all = isWished() ? [{ ...wish(), words: 'Wish' }] : [];
-  all.push(...alternatives.map((slot, place) => ({ ...slot, words: 'Alternative ' + (place + 1) })));
+  const length = lengthOf() || 15, all = isWished() ? [{ ...wish(), number: 0 }] : [];
+  all.push(...alternatives.map((slot, place) => ({ ...slot, number: place + 1 })));
   return all.map(slot => {
     const start = minuteOf(slot.start);
     return { ...slot, room: byId('room').value, from: start, to: Math.min(start + length, MIDNIGHT) };
@@ -68,7 +69,7 @@ export async function takeOffer(room, day, start) {
 /** A request lost its room: the form asks for it anew, with its title and length, and what is free on that day is offered. */
 export async function askAgain(booking, slot, isWaiting) {
   const { room, title } = booking, day = slot.day < now().day ? now().day : slot.day, isFilled = isWished() || byId('title').value.trim() !== '';
-  if (isFilled && !await sure('What is filled in goes. Ask for ' + title + ' again?', 'Ask again', 'Leave it')) return;
+  if (isFilled && !await sure(say('wish.reallyAgain', { title }), say('all.askAgain'), say('all.leaveIt'))) return;
   standsForNone();
   startOver();
   report('');
@@ -84,9 +85,8 @@ export async function askAgain(booking, slot, isWaiting) {
 async function leavesRoom(room, slot) {
   const before = byId('room').value, count = alternatives.length;
   if (before === room || (!isWished() && !count)) return true;
-  const held = isWished() ? 'Your wish is ' + labelOf(before) + ', ' + slotText(wish()) : 'Your alternatives are for ' + labelOf(before);
-  return sure(held + (isWished() && count ? ', with ' + count + ' more' : '') + '. A request is for one room. Ask for ' + labelOf(room) +
-    ', ' + slotText(slot) + ' instead?', 'Change the room', 'Leave it');
+  const held = isWished() ? say('wish.held', { room: labelOf(before), slot: slotText(wish()), count }) : say('wish.alternativesOf', { room: labelOf(before) });
+  return sure(held + ' ' + say('wish.oneRoom', { room: labelOf(room), slot: slotText(slot) }), say('wish.changeRoom'), say('all.leaveIt'));
 }
 
 function takeRoom(room) {
@@ -107,13 +107,13 @@ export function startOver() {
 // ---- what is shown of it
 
 export function showForm() {
-  renew(byId('choices'), ...alternatives.map((slot, place) => el('li', {}, weekday(slot.day, 'short') + ' ' + slotText(slot),
-    buttonOf('Take back', () => { alternatives.splice(place, 1); page.show(); byId('choices').focus(); },
-      { 'aria-label': 'Take back ' + slotText(slot) }))));
+  renew(byId('choices'), ...alternatives.map((slot, place) => el('li', {}, say('all.dayTime', { day: dayText(slot.day, 'short'), time: slot.start }),
+    buttonOf(say('wish.takeBack'), () => { alternatives.splice(place, 1); page.show(); byId('choices').focus(); },
+      { 'aria-label': say('wish.takeBackSlot', { slot: slotText(slot) }) }))));
   const [first] = choices();
   const hours = isWished() ? hoursText(first.from, first.to) : '';
-  put({ 'wish-words': hours && isDay(first.day) ? weekday(first.day) + ' ' + first.day + ', ' + hours : '',
-    clash: hours && clashWords(first), 'go-on': hours && 'Go on: ' + labelOf(first.room) + ', ' + hours });
+  put({ 'wish-words': hours && isDay(first.day) ? say('wish.when', { day: dayText(first.day), hours }) : '',
+    clash: hours && clashWords(first), 'go-on': hours && say('wish.goOn', { room: labelOf(first.room), hours }) });
   byId('go-on').hidden = !hours;
   countTitle();
 }
@@ -121,7 +121,7 @@ export function showForm() {
 /** How many letters the title has, in the letters that can be kept. */
 function countTitle() {
   const title = byId('title').value.trim(), count = (isPlain(title) ? title : plainOf(title)).length;
-  put({ 'title-count': count ? count + ' of ' + LONGEST + ' letters' : '' });
+  put({ 'title-count': count ? say('wish.letters', { number: count, most: LONGEST }) : '' });
   byId('title-count').className = count > LONGEST ? 'error' : 'hint';
 }
 
@@ -135,5 +135,5 @@ export function typed() {
 export function clashWords(choice) {
   const sheet = sheetOf(choice.room, choice.day);
   const rows = clashesOf(sheet && sheet.rows || [], choice.from, choice.to);
-  return rows.map(row => timeOf(row.start) + ' to ' + timeOf(row.stop) + ' is ' + row.title + '.').join(' ');
+  return rows.map(row => say('wish.clash', { start: timeOf(row.start), stop: timeOf(row.stop), title: row.title })).join(' ');
 }

@@ -1,12 +1,12 @@
 // Runs beside the page: each of its files comes from the office, and from what was kept of it where the office can't be reached. Replies about
 // rooms, requests and their outcomes go by, and are never kept here.
-const KEPT = 'rooms-page', PAGES = ['/', '/door.html'], FILE = /^\/([a-z]+\.(html|css|js)|rooms\.json)?$/;
+const KEPT = 'rooms-page', PAGES = ['/', '/door.html'], FILE = /^\/([a-z]+\.(html|css|js)|words\/[a-z]+\.js|rooms\.json)?$/;
 
 const keptAs = address => new URL(address, location.origin).pathname;
 
 /** The files that a file names: modules that it imports, and what a page is made of. */
 function namedIn(text) {
-  const names = [...text.matchAll(/(?:from|import) '\.\/([a-z]+\.js)'|(?:src|href)="([a-z]+\.(?:js|css))"/g)];
+  const names = [...text.matchAll(/(?:from|import) '\.\/((?:words\/)?[a-z]+\.js)'|(?:src|href)="([a-z]+\.(?:js|css))"/g)];
   return names.map(([, module, part]) => '/' + (module || part));
 }
 

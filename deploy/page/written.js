@@ -1,5 +1,6 @@
 // Days, times and rooms as people and other programs write them. Each gives what is meant, or nothing where that isn't sure.
 import { isDay, MIDNIGHT, timeOf } from './texts.js';
+import { say } from './words.js';
 
 const two = text => text.padStart(2, '0');
 
@@ -21,13 +22,13 @@ export function minuteWritten(text) {
 /** The hours that are meant by a start and a stop, or a start and a length: the start as it is sent and the minutes, or what is wrong. */
 export function hoursWritten(start, stop, length) {
   const from = minuteWritten(start), to = stop ? minuteWritten(stop) : -1;
-  if (from < 0 || from === MIDNIGHT) return { trouble: '“' + start + '” is no time of day' };
-  if (stop && to < 0) return { trouble: '“' + stop + '” is no time of day' };
-  if (!stop && !/^[0-9]{1,4}$/.test(length)) return { trouble: length ? '“' + length + '” is no length in minutes' : 'it has neither a stop nor a length' };
+  if (from < 0 || from === MIDNIGHT) return { trouble: say('written.noTime', { text: start }) };
+  if (stop && to < 0) return { trouble: say('written.noTime', { text: stop }) };
+  if (!stop && !/^[0-9]{1,4}$/.test(length)) return { trouble: length ? say('written.noLength', { text: length }) : say('written.noEnd') };
   const minutes = stop ? to - from : Number(length);
-  if (stop && length && Number(length) !== minutes) return { trouble: 'its length and its stop are not the same' };
-  if (minutes < 1) return { trouble: 'it ends before it begins' };
-  if (from + minutes > MIDNIGHT) return { trouble: 'a meeting ends at midnight at the latest' };
+  if (stop && length && Number(length) !== minutes) return { trouble: say('written.twoLengths') };
+  if (minutes < 1) return { trouble: say('all.backwards') };
+  if (from + minutes > MIDNIGHT) return { trouble: say('written.midnight') };
   return { start: timeOf(from), length: minutes };
 }
 

@@ -50,11 +50,12 @@ deploy_texts() {
         COMP_WORDS=(rooms ex) COMP_CWORD=1
         _rooms
         echo "${COMPREPLY[*]}")" 'export exchange'
-    held 'no file of the page is long' test "$(wc -l "$deploy"/page/* | sed '/ total$/d' | sort -n | awk 'END { print $1 }')" -lt 260
+    held 'no file of the page is long' test "$(wc -l "$deploy"/page/*.* | sed '/ total$/d' | sort -n | awk 'END { print $1 }')" -lt 260
     if ! missing 'what the modules of the page import' python3; then
         is 'the modules of the page import what is there' "$("$deploy/tests/modules.py" "$deploy/page" | grep -c FAILED)" 0
+        is 'the words of the page are whole in each language' "$("$deploy/tests/words.py" "$deploy/page" 2>&1 | grep -v ' passed, 0 failed$')" ''
     fi
-    is 'the page makes no HTML of texts' "$(cat "$deploy"/page/*.js | grep -cE 'innerHTML|outerHTML|insertAdjacentHTML|document\.write')" 0
+    is 'the page makes no HTML of texts' "$(cat "$deploy"/page/*.js "$deploy"/page/words/*.js | grep -cE 'innerHTML|outerHTML|insertAdjacentHTML|document\.write')" 0
     is 'the page has no code or style within its HTML, and nothing from elsewhere' \
         "$(cat "$deploy"/page/*.html | grep -cE '<style|style=|<script>| on[a-z]+=|https?://')" 0
     if ! missing 'shellcheck of the scripts' shellcheck; then
@@ -850,6 +851,7 @@ run_deploy() {
     run_anyroom
     run_report
     run_looking
+    run_languages
     run_many
     run_told
 }

@@ -150,3 +150,11 @@ run_looking() {
     page_test looking.py
     stop_nginx
 }
+
+run_languages() {
+    if missing 'languages' curl openssl nginx flock python3 chromium chromedriver; then return; fi
+    begin_looking
+    deploy_rooms "$deploy_scratch/page/languages.db"
+    page_test languages.py
+    stop_nginx
+}

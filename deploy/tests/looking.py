@@ -156,8 +156,9 @@ def without_any_connection():
     ready = page.waits(lambda: page.run('return Boolean(navigator.serviceWorker.controller)'))
     check('the page is kept', ready)
     kept = page.run('const kept = await caches.open("rooms-page"); return (await kept.keys()).map(each => new URL(each.url).pathname)')
-    ours = ['/' + name for name in os.listdir(os.path.join(os.path.dirname(os.path.dirname(os.path.abspath(__file__))), 'page')) if name.endswith('.js')]
-    missing = [name for name in ['/', '/door.html', '/desk.css', '/door.css', '/rooms.json', *ours] if name not in kept and name not in ('/worker.js', '/figures.js', '/table.js')]
+    folder_of_page = os.path.join(os.path.dirname(os.path.dirname(os.path.abspath(__file__))), 'page')
+    ours = ['/' + name for name in os.listdir(folder_of_page) if name.endswith('.js')] + ['/words/' + name for name in os.listdir(os.path.join(folder_of_page, 'words'))]
+    missing = [name for name in ['/', '/door.html', '/desk.css', '/door.css', '/unstarted.css', '/rooms.json', *ours] if name not in kept and name not in ('/worker.js', '/figures.js', '/table.js')]
     check('all its files', missing == [], missing)
     check('and no sheet or request', not [name for name in kept if name.startswith('/rooms/') or 'submit' in name], kept)
     page.open(f'{page.bare}/door.html#room-a')

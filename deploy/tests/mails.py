@@ -15,7 +15,7 @@ import sys
 import time
 
 from colours import names_and_colours
-from page import DAY, Office, Page, check, write_rooms
+from page import DAY, Office, Page, booking, check, write_rooms
 
 program, folder, url, port, free, pictures, rooms_json = sys.argv[1:]
 cache = os.path.join(os.environ['ROOMS_CALENDARS'], 'west')
@@ -109,6 +109,74 @@ def not_taken():
     check('where the state is not known for a moment the field stays', page.text('#mail-field') != '')
 
 
+def series(start, title):
+    for field, value in (('room', 'oak'), ('start', start), ('length', '30'), ('title', title), ('from', DAY), ('until', '2095-12-26'), ('list', '')):
+        page.set(f'#series-{field}', value)
+    page.click('#series button[type=submit]')
+    page.until(f'{title}: what is free', '#plan-buttons', 'Ask for 2')
+
+
+def a_series():
+    write_status(mail=True)
+    page.look()
+    page.click('#many-open')
+    series('16:00', 'Each week')
+    page.until('a list of many requests has a field of its own', '#plan-mail-field', 'Gets a mail of all that becomes of each request.')
+    before = addresses()
+    page.write('#plan-mail', 'anna@')
+    page.click('#plan-buttons .main')
+    page.until('no address there', '#plan-mail-error', 'That is no mail address')
+    check('nothing was asked for', 'Each week' not in office.asked(f'/rooms/oak/days/{DAY}'))
+    names_and_colours(page, 'mail field of many')
+    page.write('#plan-mail', ADDRESS)
+    page.click('#plan-buttons .main')
+    page.until('with one all are booked', '#plan-words', '2 in the list: 2 booked, not final yet.')
+    seen = {name: text for name, text in addresses().items() if name not in before}
+    check('the proxy has it for each', list(seen.values()) == [ADDRESS] * 2, seen)
+    check('nothing more is said', page.text('#plan-mail-error') == '' and 'mail' not in page.text('#plan-items'), page.text('#plan-items'))
+    kept = page.run('return JSON.stringify(localStorage) + document.cookie')
+    check('the browser keeps it nowhere, nor the group', 'brien' not in kept and not any('brien' in open(os.path.join(cache, 'groups', it)).read() for it in os.listdir(os.path.join(cache, 'groups'))), kept)
+    shutil.rmtree(drop)
+    series('16:30', 'Also')
+    check('the next list begins without an address', page.value('#plan-mail') == '', page.value('#plan-mail'))
+    page.write('#plan-mail', ADDRESS)
+    page.click('#plan-buttons .main')
+    page.until('what the proxy can\'t keep is said at each', '#plan-items', 'Also its mail address was not taken (status ')
+    page.until('and both are booked', '#plan-words', '2 in the list: 2 booked, not final yet.')
+    os.makedirs(drop)
+    page.click('#many-close')
+
+
+def a_change():
+    page.click(booking('oak', '16:00'))
+    page.click('#box [data-box="move"]')
+    page.set('#move-start', '17:00')
+    page.write('#move-mail', 'anna')
+    page.waits(lambda: not page.run('return document.querySelector("#move-send").disabled'))
+    page.click('#move-send')
+    page.until('no address for what is changed', '#move-mail-error', 'That is no mail address')
+    check('the booking stands', 'Each week' in page.text(booking('oak', '16:00')))
+    names_and_colours(page, 'mail field of a change')
+    page.picture_of('mail-move')
+    page.write('#move-mail', ADDRESS)
+    page.waits(lambda: not page.run('return document.querySelector("#move-send").disabled'))
+    page.click('#move-send')
+    page.until('with one it is moved', '#move-outcome', 'Moved: Each week')
+    page.until('and that is said', '#move-outcome', 'is mailed to that address.')
+    check('the proxy has it for the new request', list(addresses().values()) == [ADDRESS] and f'What becomes of request {list(addresses())[0]} ' in page.text('#move-outcome'), addresses())
+    page.click('#move-close')
+    page.click(booking('oak', '17:00'))
+    page.click('#box [data-box="move"]')
+    check('the next change begins without an address', page.value('#move-mail') == '')
+    page.set('#move-start', '17:30')
+    page.run('document.querySelector("#move-start").dispatchEvent(new Event("change", { bubbles: true }))')
+    page.waits(lambda: not page.run('return document.querySelector("#move-send").disabled'))
+    page.click('#move-send')
+    page.until('without one it is moved as ever', '#move-outcome', '17:30–18:00')
+    check('and nothing is handed over', 'mail' not in page.text('#move-outcome') and len(addresses()) == 1, page.text('#move-outcome'))
+    page.click('#move-close')
+
+
 def rooms_elsewhere():
     check('no line of rooms elsewhere', page.text('#elsewhere') == '')
     write_status(elsewhere=[ASH], mail=True)
@@ -150,6 +218,8 @@ try:
     an_address()
     no_room()
     not_taken()
+    a_series()
+    a_change()
     rooms_elsewhere()
     seen = [line for line in page.log() if 'Failed to load resource' not in line]
     check('nothing in the console of the browser', not seen, seen)

@@ -7,7 +7,7 @@ import os
 import re
 import sys
 
-IMPORT = re.compile(r"import (?:\{([^}]*)\} from )?'\./([\w.]+)'")
+IMPORT = re.compile(r"import (?:(?:\{([^}]*)\}|\w+) from )?'\./([\w./]+)'")
 EXPORT = re.compile(r'^export (?:async )?(?:(?:function\*?|class) (\w+)|(?:const|let) (.*))', re.M)
 
 
@@ -22,7 +22,7 @@ def exported(text):
 def main():
     folder = sys.argv[1]
     texts = {}
-    for name in sorted(os.listdir(folder)):
+    for name in sorted(os.listdir(folder)) + ['words/' + each for each in sorted(os.listdir(os.path.join(folder, 'words')))]:
         if name.endswith('.js'):
             with open(os.path.join(folder, name), encoding='utf-8') as it:
                 texts[name] = it.read()

@@ -107,6 +107,12 @@ ash              Ash, 3rd floor'
     held 'what differs is in the journal' grep -qx 'the page and the database differ: yew: on the page, and not in the database' "$folder/served"
     line=$("$deploy/check/rooms-check" west)
     is 'the check names what differs' "$? $(cut -d ';' -f 2,3 <<< "$line")" '1  ROOM yew IS ON THE PAGE AND NOT IN THE DATABASE; not on the page: elm fir'
+    cp "$ROOMS_ETC/west.nginx" "$folder/west.nginx"
+    sed -i 's,|words/\[a-z\]+\\.js,,' "$ROOMS_ETC/west.nginx"
+    is 'the check names a proxy of an older package' "$("$deploy/check/rooms-check" -t west | grep -F PROXY)" \
+        "THE PROXY IS OF AN OLDER PACKAGE: $ROOMS_ETC/west.nginx has no ~ ^/([a-z]+\.(html|css|js)|words/[a-z]+\.js)\$, and is to be written anew (README, 'The package')"
+    mv "$folder/west.nginx" "$ROOMS_ETC/west.nginx"
+    is 'and no other' "$("$deploy/check/rooms-check" -t west | grep -cF PROXY)" 0
     is 'a room is added while it is served' "$("$office" add-room west box 'The "box"')" 'added box (The "box") to west'
     is 'it can be booked' "$(curl -s "http://127.0.0.1:$(sed -n 's/^PORT=//p' "$ROOMS_ETC/west.conf")/rooms/box/errors" --retry 5 --retry-connrefused | head -n 1)" \
         'box errors'

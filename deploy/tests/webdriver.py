@@ -12,12 +12,12 @@ ELEMENT = 'element-6066-11e4-a52e-4f735466cecf'
 class Browser:
     """A headless Chromium of its own, over a driver of its own at this port."""
 
-    def __init__(self, port, profile, width=1280, height=900):
+    def __init__(self, port, profile, width=1280, height=900, language='en-GB'):
         self.root = f'http://127.0.0.1:{port}'
         self.driver = subprocess.Popen(['chromedriver', f'--port={port}'], stdout=subprocess.DEVNULL, stderr=subprocess.DEVNULL)
         arguments = ['--headless=new', '--no-sandbox', '--disable-gpu', '--disable-dev-shm-usage', '--no-first-run',
                      '--disable-background-networking', '--disable-component-update', f'--user-data-dir={profile}',
-                     f'--window-size={width},{height}']
+                     f'--window-size={width},{height}', f'--accept-lang={language}']
         wanted = {'acceptInsecureCerts': True, 'pageLoadStrategy': 'normal', 'goog:chromeOptions': {'args': arguments},
                   'goog:loggingPrefs': {'browser': 'ALL'}}
         for _ in range(100):
