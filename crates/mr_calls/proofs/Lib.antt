@@ -1,0 +1,2 @@
+pub mod CallChains
+pub mod WayCalls
