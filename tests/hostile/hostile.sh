@@ -79,6 +79,7 @@ run_questions() {
         return
     fi
     tried 'questions that write nothing' tests/files/questions.py "$program" "$quick/questions"
+    tried 'questions by trees and by SQL' tests/files/trees.py "$program" "$quick/trees"
 }
 
 # refusing PROGRAM SERVED ASKED: memory is refused to these (tests/faults/refused_memory.py)

@@ -22,7 +22,7 @@ use Rattle.mr_words.specs.declared.invocations.WordFault.{WordFault}
 use Rattle.mr_words.specs.declared.invocations.WordFault.TheVariants as faults
 use Rattle.mr_tasks.specs.Rehearsed.{bad_words_line}
 use Rattle.mr_tasks.specs.CommandEffects.{TellsFault, TellsLength, TellsWritten}
-use Rattle.mr_tasks.specs.Tasks.{IsCommandFor, IsReceive, IsBatchFor, IsOfDatabase, TellsUnopened, EndsAsking, EndsAskingEither, EndsRehearsal, IsAnswered, IsOpened, OnlyReads, TellsTo, file_for}
+use Rattle.mr_tasks.specs.Tasks.{IsCommandFor, IsReceive, IsBatchFor, IsOfDatabase, TellsUnopened, EndsAsking, EndsAskingEither, EndsAskingOne, EndsRehearsal, IsAboutRoom, IsAnswered, IsOpened, OnlyReads, TellsTo, file_for}
 use Rattle.mr.specs.CommandLines.{EndsAs, EndsExchangeAt}
 use Rattle.mr_net.specs.Hosts.{IsPeer}
 use Rattle.mr_net.specs.Printed.{StopsWithText, IsStopText, EndsExchange, EndsServing, TellsBadAddress}
@@ -48,33 +48,33 @@ exchange_at : (address : Text) (held holds : Option Text) (status : ℕ) → ((h
 exchange_at address held holds status named none = record { asked = named; bad = none }
 
 -- a command line that asks this of a replica ends as the asking does
-pub task_ends : {K C : Type 0} (keeper : Ghosts K) (copy : Ghosts C) (asked : Invoked) (database : String Global) (work : Task) (held holds : Option Text) (status : ℕ)
+pub task_ends : {K C T : Type 0} (keeper : Ghosts K) (copy : Ghosts C) (trees : Ghosts T) (asked : Invoked) (database : String Global) (work : Task) (held holds : Option Text) (status : ℕ)
     → asked ≡ asked_of (invocation.Ask database work)
-    → EndsAskingEither keeper copy (IsCommandFor work) (TellsTo (file_for work)) held holds status → EndsAs keeper copy asked held holds status
-task_ends keeper copy asked database (task.Local local) held holds status is ends = subst (λ a. EndsAs keeper copy a held holds status) (sym is) ends
-task_ends keeper copy asked database (task.Export position out lines) held holds status is ends = subst (λ a. EndsAs keeper copy a held holds status) (sym is) ends
-task_ends keeper copy asked database (task.Import batch) held holds status is ends = subst (λ a. EndsAs keeper copy a held holds status) (sym is) ends
+    → EndsAskingOne keeper copy trees (IsCommandFor work) (TellsTo (file_for work)) held holds status → EndsAs keeper copy trees asked held holds status
+task_ends keeper copy trees asked database (task.Local local) held holds status is ends = subst (λ a. EndsAs keeper copy trees a held holds status) (sym is) ends
+task_ends keeper copy trees asked database (task.Export position out lines) held holds status is ends = subst (λ a. EndsAs keeper copy trees a held holds status) (sym is) ends
+task_ends keeper copy trees asked database (task.Import batch) held holds status is ends = subst (λ a. EndsAs keeper copy trees a held holds status) (sym is) ends
 
 -- an exchange that ends as such an address says is the end of the command line that asks for it
-pub exchange_ends : {K C : Type 0} (keeper : Ghosts K) (copy : Ghosts C) (asked : Invoked) (database address : Text) (held holds : Option Text) (status : ℕ)
+pub exchange_ends : {K C T : Type 0} (keeper : Ghosts K) (copy : Ghosts C) (trees : Ghosts T) (asked : Invoked) (database address : Text) (held holds : Option Text) (status : ℕ)
     → asked ≡ Exchange database address → ((host : Text) (port : ℕ) → IsPeer address host port → EndsExchange held holds status)
-    → (((host : Text) (port : ℕ) → ¬ IsPeer address host port) → TellsBadAddress held holds status) → EndsAs keeper copy asked held holds status
-exchange_ends keeper copy asked database address held holds status is named none =
-    subst (λ a. EndsAs keeper copy a held holds status) (sym is) (exchange_at address held holds status named none)
+    → (((host : Text) (port : ℕ) → ¬ IsPeer address host port) → TellsBadAddress held holds status) → EndsAs keeper copy trees asked held holds status
+exchange_ends keeper copy trees asked database address held holds status is named none =
+    subst (λ a. EndsAs keeper copy trees a held holds status) (sym is) (exchange_at address held holds status named none)
 
 -- where memory is wanting before anything is done, each command line ends so
-pub fault_ends : {K C : Type 0} (keeper : Ghosts K) (copy : Ghosts C) (asked : Invoked) (held holds : Option Text) (status : ℕ) → TellsFault held holds status → EndsAs keeper copy asked held holds status
-fault_ends keeper copy (Init database server primary) held holds status fault = inr (inr fault)
-fault_ends keeper copy (Ask database command) held holds status fault = inl (inr (inr fault))
-fault_ends keeper copy (Export database position batch max_lines) held holds status fault = inl (inr (inr fault))
-fault_ends keeper copy (Import database batch) held holds status fault = inl (inr (inr fault))
-fault_ends keeper copy (Rehearse script) held holds status fault = stops_at_once held holds status fault
-fault_ends keeper copy (Serve database port connections) held holds status fault = serves_nothing port connections held holds status fault
-fault_ends keeper copy (Exchange database address) held holds status fault = record {
+pub fault_ends : {K C T : Type 0} (keeper : Ghosts K) (copy : Ghosts C) (trees : Ghosts T) (asked : Invoked) (held holds : Option Text) (status : ℕ) → TellsFault held holds status → EndsAs keeper copy trees asked held holds status
+fault_ends keeper copy trees (Init database server primary) held holds status fault = inr (inr fault)
+fault_ends keeper copy trees (Ask database command) held holds status fault = inl (inl (inr (inr fault)))
+fault_ends keeper copy trees (Export database position batch max_lines) held holds status fault = inl (inl (inr (inr fault)))
+fault_ends keeper copy trees (Import database batch) held holds status fault = inl (inl (inr (inr fault)))
+fault_ends keeper copy trees (Rehearse script) held holds status fault = stops_at_once held holds status fault
+fault_ends keeper copy trees (Serve database port connections) held holds status fault = serves_nothing port connections held holds status fault
+fault_ends keeper copy trees (Exchange database address) held holds status fault = record {
   asked = λ host port is. exchanges_nothing held holds status fault;
   bad = λ none. inr (stops_for_memory (λ text. text ≡ no_memory_line) held holds status refl fault);
 }
-fault_ends keeper copy (Bridge database other) held holds status fault = exchanges_nothing held holds status fault
+fault_ends keeper copy trees (Bridge database other) held holds status fault = exchanges_nothing held holds status fault
 
 -- ---- no status is above 3
 
@@ -122,6 +122,11 @@ either_within : {K C : Type 0} (keeper : Ghosts K) (copy : Ghosts C) (IsCommand 
 either_within keeper copy IsCommand TellsReply held holds status low (inl ends) = asking_within keeper IsCommand TellsReply held holds status low ends
 either_within keeper copy IsCommand TellsReply held holds status low (inr ends) = asking_within copy (λ c. IsCommand c × OnlyReads c) TellsReply held holds status low ends
 
+one_within : {K C T : Type 0} (keeper : Ghosts K) (copy : Ghosts C) (trees : Ghosts T) (IsCommand : Command → Type 0) (TellsReply : Reply → Option Text → Option Text → ℕ → Type 0) (held holds : Option Text) (status : ℕ)
+    → ((reply : Reply) → TellsReply reply held holds status → status ≤ 3) → EndsAskingOne keeper copy trees IsCommand TellsReply held holds status → status ≤ 3
+one_within keeper copy trees IsCommand TellsReply held holds status low (inl ends) = either_within keeper copy IsCommand TellsReply held holds status low ends
+one_within keeper copy trees IsCommand TellsReply held holds status low (inr ends) = asking_within trees (λ c. IsCommand c × IsAboutRoom c) TellsReply held holds status low ends
+
 rehearsal_within : (held holds : Option Text) (status : ℕ) → EndsRehearsal held holds status → status ≤ 3
 rehearsal_within held holds status (inl done) = let zero = done.0 in omega (arith, zero)
 rehearsal_within held holds status (inr (inl stopped)) = let one = stopped.0 in omega (arith, one)
@@ -153,25 +158,25 @@ exchange_at_within address held holds status ends =
       | inr low ↦ low
     ]
 
-pub ends_within : {K C : Type 0} (keeper : Ghosts K) (copy : Ghosts C) (asked : Invoked) (held holds : Option Text) (status : ℕ) → EndsAs keeper copy asked held holds status → status ≤ 3
-ends_within keeper copy (Init database server primary) held holds status (inl done) = let zero = done.0 in omega (arith, zero)
-ends_within keeper copy (Init database server primary) held holds status (inr unopened) = unopened_within held holds status unopened
-ends_within keeper copy (Ask database command) held holds status ends = either_within keeper copy (λ c. c ≡ command) PrintsReply held holds status (λ reply told. tells_within reply held holds status told) ends
-ends_within keeper copy (Export database position batch max_lines) held holds status ends =
-    either_within keeper copy (IsBatchFor max_lines) TellsWritten held holds status (λ reply told. written_within reply held holds status told) ends
-ends_within keeper copy (Import database batch) held holds status ends = either_within keeper copy IsReceive PrintsReply held holds status (λ reply told. tells_within reply held holds status told) ends
-ends_within keeper copy (Rehearse script) held holds status ends = rehearsal_within held holds status ends
-ends_within keeper copy (Serve database port connections) held holds status ends = serving_within port connections held holds status ends
-ends_within keeper copy (Exchange database address) held holds status ends = exchange_at_within address held holds status ends
-ends_within keeper copy (Bridge database other) held holds status ends = exchange_within held holds status ends
+pub ends_within : {K C T : Type 0} (keeper : Ghosts K) (copy : Ghosts C) (trees : Ghosts T) (asked : Invoked) (held holds : Option Text) (status : ℕ) → EndsAs keeper copy trees asked held holds status → status ≤ 3
+ends_within keeper copy trees (Init database server primary) held holds status (inl done) = let zero = done.0 in omega (arith, zero)
+ends_within keeper copy trees (Init database server primary) held holds status (inr unopened) = unopened_within held holds status unopened
+ends_within keeper copy trees (Ask database command) held holds status ends = one_within keeper copy trees (λ c. c ≡ command) PrintsReply held holds status (λ reply told. tells_within reply held holds status told) ends
+ends_within keeper copy trees (Export database position batch max_lines) held holds status ends =
+    one_within keeper copy trees (IsBatchFor max_lines) TellsWritten held holds status (λ reply told. written_within reply held holds status told) ends
+ends_within keeper copy trees (Import database batch) held holds status ends = one_within keeper copy trees IsReceive PrintsReply held holds status (λ reply told. tells_within reply held holds status told) ends
+ends_within keeper copy trees (Rehearse script) held holds status ends = rehearsal_within held holds status ends
+ends_within keeper copy trees (Serve database port connections) held holds status ends = serving_within port connections held holds status ends
+ends_within keeper copy trees (Exchange database address) held holds status ends = exchange_at_within address held holds status ends
+ends_within keeper copy trees (Bridge database other) held holds status ends = exchange_within held holds status ends
 
 -- ---- words that are no command line
 
 -- words that could be read weren't had for lack of memory
-pub words_end : {K C : Type 0} (keeper : Ghosts K) (copy : Ghosts C) (asked : Invoked) (fault : WordFault) (held holds : Option Text) (status : ℕ)
-    → ¬ (fault ≡ faults.Bad) → (fault ≡ faults.Memory → TellsFault held holds status) → EndsAs keeper copy asked held holds status
-words_end keeper copy asked faults.Bad held holds status not_bad memory = absurd (not_bad refl)
-words_end keeper copy asked faults.Memory held holds status not_bad memory = fault_ends keeper copy asked held holds status (memory refl)
+pub words_end : {K C T : Type 0} (keeper : Ghosts K) (copy : Ghosts C) (trees : Ghosts T) (asked : Invoked) (fault : WordFault) (held holds : Option Text) (status : ℕ)
+    → ¬ (fault ≡ faults.Bad) → (fault ≡ faults.Memory → TellsFault held holds status) → EndsAs keeper copy trees asked held holds status
+words_end keeper copy trees asked faults.Bad held holds status not_bad memory = absurd (not_bad refl)
+words_end keeper copy trees asked faults.Memory held holds status not_bad memory = fault_ends keeper copy trees asked held holds status (memory refl)
 
 -- the line of bad words, or want of memory in its place
 pub bad_words_end : (fault : WordFault) (held holds : Option Text) (status : ℕ)

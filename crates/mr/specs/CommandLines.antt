@@ -19,7 +19,7 @@ use Rattle.mr_words.specs.CommandTable.{Invoked, Init, Ask, Export, Import, Rehe
 use Rattle.mr_words.specs.declared.invocations.Task.{Task}
 use Rattle.mr_words.specs.declared.invocations.Task.TheVariants as task
 use Rattle.mr_tasks.specs.CommandEffects.{TellsWritten}
-use Rattle.mr_tasks.specs.Tasks.{IsBatchFor, IsReceive, EndsAskingEither, EndsInit, EndsRehearsal}
+use Rattle.mr_tasks.specs.Tasks.{IsBatchFor, IsReceive, EndsAskingOne, EndsInit, EndsRehearsal}
 
 -- ---- exchanges
 
@@ -30,13 +30,13 @@ pub record EndsExchangeAt (address : Text) (held holds : Option Text) (status : 
 
 -- ---- command lines
 
--- what a command line that asks for this prints, where databases are those of such keepers, and copies those of such ones
-abbrev pub EndsAs : {K C : Type 0} → Ghosts K → Ghosts C → Invoked → Option Text → Option Text → ℕ → Type 0
-EndsAs keeper copy (Init database server primary) = EndsInit keeper server primary
-EndsAs keeper copy (Ask database command) = EndsAskingEither keeper copy (λ c. c ≡ command) PrintsReply
-EndsAs keeper copy (Export database position batch max_lines) = EndsAskingEither keeper copy (IsBatchFor max_lines) TellsWritten
-EndsAs keeper copy (Import database batch) = EndsAskingEither keeper copy IsReceive PrintsReply
-EndsAs keeper copy (Rehearse script) = EndsRehearsal
-EndsAs keeper copy (Serve database port connections) = EndsServing port connections
-EndsAs keeper copy (Exchange database address) = EndsExchangeAt address
-EndsAs keeper copy (Bridge database other) = EndsExchange
+-- what a command line that asks for this prints, where databases are those of such keepers, copies those of such ones, and their trees those of such
+abbrev pub EndsAs : {K C T : Type 0} → Ghosts K → Ghosts C → Ghosts T → Invoked → Option Text → Option Text → ℕ → Type 0
+EndsAs keeper copy trees (Init database server primary) = EndsInit keeper server primary
+EndsAs keeper copy trees (Ask database command) = EndsAskingOne keeper copy trees (λ c. c ≡ command) PrintsReply
+EndsAs keeper copy trees (Export database position batch max_lines) = EndsAskingOne keeper copy trees (IsBatchFor max_lines) TellsWritten
+EndsAs keeper copy trees (Import database batch) = EndsAskingOne keeper copy trees IsReceive PrintsReply
+EndsAs keeper copy trees (Rehearse script) = EndsRehearsal
+EndsAs keeper copy trees (Serve database port connections) = EndsServing port connections
+EndsAs keeper copy trees (Exchange database address) = EndsExchangeAt address
+EndsAs keeper copy trees (Bridge database other) = EndsExchange

@@ -17,6 +17,7 @@ use mr_store::Keeper;
 use mr_tasks::databases::{init, on_database};
 use mr_tasks::files::{open_file, say_fault};
 use mr_tasks::rehearse;
+use mr_trees::CopyOfTrees;
 use mr_words::{BAD_WORDS, Invocation, NO_MEMORY, REFUSED, WordFault, invocation, say};
 use std::alloc::Global;
 use std::io::Write;
@@ -27,7 +28,7 @@ use std::io::Write;
 pub fn command<W: Write>(rt: &HostRuntime, alloc: Global, words: &[String], out: &mut W) -> u8
     ensures within { result ≤ 3 }
     ensures asked { has_no_flag (map string_bytes words.now) ≡ true → (asked : Invoked) → invocation_of (map string_bytes words.now) ≡ Some asked
-        → EndsAs ⟦<FileKeeper as Keeper>⟧ ⟦<CopyKeeper as Keeper>⟧ asked (W.contents out.old) (W.contents out.new) result }
+        → EndsAs ⟦<FileKeeper as Keeper>⟧ ⟦<CopyKeeper as Keeper>⟧ ⟦<CopyOfTrees as Keeper>⟧ asked (W.contents out.old) (W.contents out.new) result }
     ensures bad { has_no_flag (map string_bytes words.now) ≡ true → invocation_of (map string_bytes words.now) ≡ None
         → ((result ≡ 2) × Appends (W.contents out.old) (W.contents out.new) bad_words_line)
         ⊎ (((result ≡ 1) × Appends (W.contents out.old) (W.contents out.new) no_memory_line) ⊎ (result ≡ 3)) }
@@ -52,7 +53,7 @@ pub fn say_word_fault<W: Write>(fault: WordFault, out: &mut W) -> u8
 
 /// Does what was asked for.
 fn perform<W: Write>(rt: &HostRuntime, alloc: Global, asked: Invocation, out: &mut W) -> u8
-    ensures { EndsAs ⟦<FileKeeper as Keeper>⟧ ⟦<CopyKeeper as Keeper>⟧ (asked_of asked) (W.contents out.old) (W.contents out.new) result }
+    ensures { EndsAs ⟦<FileKeeper as Keeper>⟧ ⟦<CopyKeeper as Keeper>⟧ ⟦<CopyOfTrees as Keeper>⟧ (asked_of asked) (W.contents out.old) (W.contents out.new) result }
 {
     match asked {
         Invocation::Init {

@@ -7,8 +7,9 @@ use Rattle.mr_model.specs.Texts.{Text, line}
 use Rattle.mr_model.specs.Refusals.{Refusal, OutOfMemory, Store, NotAReplica, refusal_text}
 use Rattle.mr_model.specs.Replica.{Replica, opening}
 use Rattle.mr_model.specs.Replies.{Reply}
-use Rattle.mr_model.specs.Step.{Command, Receive, BatchFor, step}
+use Rattle.mr_model.specs.Step.{Command, Ask, Receive, BatchFor, step}
 use Rattle.mr_model.specs.Tables.{Stands}
+use Rattle.mr_model.specs.View.{Question}
 use Rattle.mr_store.specs.declared.keeper.Keeper.{Ghosts}
 use Rattle.mr_store.specs.KeeperCalls.{IsSettled}
 use Rattle.mr_service.specs.Asked.{local_of}
@@ -41,6 +42,10 @@ IsCommandFor (task.Export position out lines) command = IsBatchFor lines command
 -- the command leaves each replica as it is
 abbrev pub OnlyReads : Command → Type 0
 OnlyReads command = (r : Replica) → (step r command).replica ≡ r
+
+-- the command is a question about a room
+abbrev pub IsAboutRoom : Command → Type 0
+IsAboutRoom command = (room : Text) × (question : Question) × (command ≡ Ask room question)
 
 -- the path of the file that takes the reply
 abbrev pub file_for : Task → Option (String Global)
@@ -96,6 +101,12 @@ abbrev pub EndsAskingEither : {K C : Type 0} → Ghosts K → Ghosts C → (Comm
 EndsAskingEither keeper copy IsCommand TellsReply held holds status =
     EndsAsking keeper IsCommand TellsReply held holds status
     ⊎ EndsAsking copy (λ c. IsCommand c × OnlyReads c) TellsReply held holds status
+
+-- or the trees of a copy, where the command is a question about a room
+abbrev pub EndsAskingOne : {K C T : Type 0} → Ghosts K → Ghosts C → Ghosts T → (Command → Type 0) → (Reply → Option Text → Option Text → ℕ → Type 0) → Option Text → Option Text → ℕ → Type 0
+EndsAskingOne keeper copy trees IsCommand TellsReply held holds status =
+    EndsAskingEither keeper copy IsCommand TellsReply held holds status
+    ⊎ EndsAsking trees (λ c. IsCommand c × IsAboutRoom c) TellsReply held holds status
 
 abbrev pub EndsInit : {K : Type 0} → Ghosts K → ℕ → ℕ → Option Text → Option Text → ℕ → Type 0
 EndsInit {K} keeper server primary held holds status =

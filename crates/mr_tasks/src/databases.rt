@@ -4,15 +4,16 @@ ghost use Rattle.std.specs.Prelude.{◌≡◌, ◌⊎◌};
 ghost use Rattle.std.specs.Io.KnownBytes.{Appends};
 ghost use Rattle.mr_model.specs.Step.{Command};
 ghost use Rattle.mr_words.specs.CommandOutput.{ok_line};
-ghost use Rattle.mr_tasks.specs.Tasks.{EndsAsking, EndsAskingEither, EndsInit, IsAnswered, IsCommandFor, OnlyReads, TellsTo, file_for};
+ghost use Rattle.mr_tasks.specs.Tasks.{EndsAsking, EndsAskingEither, EndsAskingOne, EndsInit, IsAboutRoom, IsAnswered, IsCommandFor, OnlyReads, TellsTo, file_for};
 ghost use Rattle.mr_tasks.specs.CommandEffects.{TellsFault};
 
 use crate::asking::perform;
-use crate::tasks::{needs_rows, only_reads};
+use crate::tasks::{is_about_room, needs_rows, only_reads};
 use mr_base::ServerId;
 use mr_service::Service;
 use mr_sql::{CopyKeeper, FileKeeper, NotCopied, SqlKeeper};
 use mr_store::Keeper;
+use mr_trees::{CopyOfTrees, TreeKeeper};
 use mr_words::{DONE, Task, say, say_refusal};
 use std::alloc::Global;
 use std::io::Write;
@@ -48,7 +49,8 @@ fn say_made<K: Keeper, W: Write>(keeper: K, out: &mut W) -> (K, u8)
 }
 
 /// Does the task with the replica of the database at this path. For a question the database's files are read and nothing is
-/// written, unless no copy will do: then the database itself is opened, and moved up if it is of the first schema.
+/// written, unless no copy will do: then the database itself is opened, and moved up if it is of the first schema. A question about a room is
+/// answered from the trees of the copy, if these are taken.
 pub fn on_database<W: Write>(
     rt: &HostRuntime,
     alloc: Global,
@@ -56,13 +58,37 @@ pub fn on_database<W: Write>(
     task: Task,
     out: &mut W,
 ) -> u8
-    ensures { EndsAskingEither ⟦<FileKeeper as Keeper>⟧ ⟦<CopyKeeper as Keeper>⟧ (IsCommandFor task) (TellsTo (file_for task))
+    ensures { EndsAskingOne ⟦<FileKeeper as Keeper>⟧ ⟦<CopyKeeper as Keeper>⟧ ⟦<CopyOfTrees as Keeper>⟧ (IsCommandFor task) (TellsTo (file_for task))
         (W.contents out.old) (W.contents out.new) result }
 {
-    if only_reads(&task) {
+    if is_about_room(&task) {
+        on_trees(rt, alloc, database, task, out)
+    } else if only_reads(&task) {
         on_copy(rt, alloc, database, task, out)
     } else {
         on_file(rt, alloc, database, task, out)
+    }
+}
+
+/// Does the task, a question about a room, with the trees of a copy of the database at this path, or as any other question if these aren't taken: so
+/// each refusal of a database is that of `on_copy`.
+fn on_trees<W: Write>(
+    rt: &HostRuntime,
+    alloc: Global,
+    database: &str,
+    task: Task,
+    out: &mut W,
+) -> u8
+    requires asks { (command : Command) → IsCommandFor task command → IsAboutRoom command }
+    ensures { EndsAskingOne ⟦<FileKeeper as Keeper>⟧ ⟦<CopyKeeper as Keeper>⟧ ⟦<CopyOfTrees as Keeper>⟧ (IsCommandFor task) (TellsTo (file_for task))
+        (W.contents out.old) (W.contents out.new) result }
+{
+    match TreeKeeper::open_copy(rt, database) {
+        Some(keeper) => {
+            let (_copy, status) = on_keeper(rt, alloc, keeper, task, out);
+            status
+        }
+        None => on_copy(rt, alloc, database, task, out),
     }
 }
 

@@ -4,7 +4,7 @@ ghost use Rattle.std.specs.Prelude.{◌≡◌, IfOk, IsTrue};
 ghost use Rattle.mr_model.specs.Step.{Command as Asked};
 ghost use Rattle.mr_service.specs.Asked.{command_seen, local_of};
 ghost use Rattle.mr_tasks.specs.Rehearsed.{GivesInput};
-ghost use Rattle.mr_tasks.specs.Tasks.{IsCommandFor, IsCommandWith, OnlyReads, file_for};
+ghost use Rattle.mr_tasks.specs.Tasks.{IsAboutRoom, IsCommandFor, IsCommandWith, OnlyReads, file_for};
 
 use crate::files::{FileFault, open_file, read_limited};
 use mr_service::{Command, Local};
@@ -29,6 +29,35 @@ pub(crate) fn needs_rows(task: &Task) -> bool {
     match task {
         Task::Local(_) | Task::Import { .. } => false,
         Task::Export { .. } => true,
+    }
+}
+
+/// Whether the task is a question about a room.
+pub(crate) fn is_about_room(task: &Task) -> bool
+    ensures { IsTrue result → (command : Asked) → IsCommandFor task.now command → IsAboutRoom command }
+{
+    match task {
+        Task::Local(local) => asks_of_room(local),
+        Task::Import { .. } | Task::Export { .. } => false,
+    }
+}
+
+/// Whether the command is a question about a room.
+fn asks_of_room(local: &Local) -> bool
+    ensures { IsTrue result → IsAboutRoom (local_of local.now) }
+{
+    match local {
+        Local::Calendar { .. } => true,
+        Local::Sheet { .. } => true,
+        Local::Outcome { .. } => true,
+        Local::Errors { .. } => true,
+        Local::Position
+        | Local::BatchFor { .. }
+        | Local::AddRoom(_)
+        | Local::Submit(_)
+        | Local::Cancel { .. }
+        | Local::Commit(_)
+        | Local::Truncate(_) => false,
     }
 }
 

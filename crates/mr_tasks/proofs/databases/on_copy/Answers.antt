@@ -1,12 +1,12 @@
 use Rattle.std.proofs.Common.{inl, inr}
 use Rattle.mr_tasks.proofs.EndLaws.{copy_ends, refusal_ends}
-use Rattle.mr_tasks.specs.Tasks.{IsCommandFor, TellsTo, file_for}
+use Rattle.mr_tasks.specs.Tasks.{IsCommandFor, OnlyReads, TellsTo, file_for}
 use Rattle.mr_tasks.proofs.databases.on_copy.Goals as goal
 
 pub returns-in-Ok : goal.returns-in-Ok
 returns-in-Ok g c =
     elim c.on_keeper-copy.ensures [
-      | inl answered ↦ inr (copy_ends _ (IsCommandFor c.args.task) (TellsTo (file_for c.args.task)) c.in-Ok.keeper c.on_keeper-copy.result.0 _ _ _ c.requires.reads
+      | inl answered ↦ inr (copy_ends _ (IsCommandFor c.args.task) OnlyReads (TellsTo (file_for c.args.task)) c.in-Ok.keeper c.on_keeper-copy.result.0 _ _ _ c.requires.reads
           (record {
             uncounted = c.in-Ok.ensures.opened.uncounted;
             opens = c.in-Ok.ensures.opened.opens;
