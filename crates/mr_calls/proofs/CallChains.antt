@@ -19,6 +19,7 @@ use Rattle.mr_calls.specs.Calls.{AreAsked, AreCalls, CallsHappen, acts_of, doubt
 
 -- ---- commands in turn
 
+-- a keeper that is clean behind some commands was so before them
 clean_before : {K : Type 0} (k : Ghosts K) (old new : K) (calls : List (Command × Reply)) → InTurn k old calls new → k.is_clean new → k.is_clean old
 clean_before k old new [] same clean = subst (λ x. k.is_clean x) same clean
 clean_before k old new (c ∷ calls) (m, served, known, rest) clean = served.clean (clean_before k m new calls rest clean)
@@ -28,11 +29,13 @@ machine_doubts : (c : Command) (reply : Reply) → IsOfMachine reply → pending
 machine_doubts c reply no_memory e = let z : ◌≡◌ {A = Option Command} (Some c) None = e in cc
 machine_doubts c reply no_store e = let z : ◌≡◌ {A = Option Command} (Some c) None = e in cc
 
+-- another refusal leaves nothing in doubt
 refusal_known : (c : Command) (e : Refusal) → (IsOfMachine (Refused e) → ⊥) → pending_after c (Refused e) ≡ None
 refusal_known c OutOfMemory heard = absurd (heard no_memory)
 refusal_known c Store heard = absurd (heard no_store)
 refusal_known c _ heard = refl
 
+-- no other reply does
 heard_known : (c : Command) (reply : Reply) → (IsOfMachine reply → ⊥) → pending_after c reply ≡ None
 heard_known c (Refused e) heard = refusal_known c e heard
 heard_known c _ heard = refl
@@ -61,19 +64,23 @@ in_turn_calls k old new (c ∷ calls) (m, served, inr last, rest) clean opened =
 
 -- ---- happenings
 
+-- an element stays where it is when others are put behind
 get_more : {A : Type 0} (xs ys : List A) (n : ℕ) (x : A) → slice_get xs n ≡ Some x → slice_get (xs ++ ys) n ≡ Some x
 get_more {A} [] ys n x e = absurd (let z : ◌≡◌ {A = Option A} None (Some x) = e in cc)
 get_more (y ∷ xs) ys zero x e = e
 get_more (y ∷ xs) ys (suc n) x e = get_more xs ys n x e
 
+-- and so do numbered texts
 numbered_more : (texts more : List Text) (n : ℕ) (t : Text) → batch_numbered texts n ≡ Some t → batch_numbered (texts ++ more) n ≡ Some t
 numbered_more texts more zero t e = e
 numbered_more texts more (suc n) t e = get_more texts more n t e
 
+-- when a batch is given
 there_with : (texts : List Text) (reply : Reply) (n : ℕ) (t : Text) → batch_numbered texts n ≡ Some t → batch_numbered (texts_with texts reply) n ≡ Some t
 there_with texts (BatchIs b) n t e = numbered_more texts (batch_text b ∷ []) n t e
 there_with texts _ n t e = e
 
+-- and behind any command
 there_after : (texts : List Text) (c : Command) (reply : Reply) (n : ℕ) (t : Text) → batch_numbered texts n ≡ Some t → batch_numbered (texts_after texts c reply) n ≡ Some t
 there_after texts (BatchFor position max_lines) reply n t e = there_with texts reply n t e
 there_after texts _ reply n t e = e
@@ -91,6 +98,7 @@ asked_after texts c reply (Receive bytes) from =
 asked_after texts c reply (BatchFor position max_lines) from = from
 asked_after texts c reply _ from = from
 
+-- of all
 abbrev all_asked_after : (texts : List Text) (c : Command) (reply : Reply) (calls : List (Command × Reply)) → AreAsked texts calls → AreAsked (texts_after texts c reply) calls
 all_asked_after texts c reply [] from = tt
 all_asked_after texts c reply (x ∷ calls) from = (asked_after texts c reply x.0 from.0, all_asked_after texts c reply calls from.1)
@@ -102,21 +110,25 @@ act_same texts c reply server (Receive bytes) from = refl
 act_same texts c reply server (BatchFor position max_lines) from = refl
 act_same texts c reply server _ from = refl
 
+-- of all
 acts_same : (texts : List Text) (c : Command) (reply : Reply) (server : ℕ) (calls : List (Command × Reply)) (from : AreAsked texts calls)
     → acts_of (texts_after texts c reply) server calls (all_asked_after texts c reply calls from) ≡ acts_of texts server calls from
 acts_same texts c reply server [] from = refl
 acts_same texts c reply server (x ∷ calls) from = λ i. act_same texts c reply server x.0 from.0 i ∷ acts_same texts c reply server calls from.1 i
 
+-- an element that is put where it is
 set_same : {A : Type 0} (xs : List A) (n : ℕ) (x : A) → slice_get xs n ≡ Some x → slice_set xs n x ≡ xs
 set_same {A} [] n x e = absurd (let z : ◌≡◌ {A = Option A} None (Some x) = e in cc)
 set_same (y ∷ xs) zero x e = ap (λ z. z ∷ xs) (sym (some_inj y x e))
 set_same (y ∷ xs) (suc n) x e = ap (λ zs. y ∷ zs) (set_same xs n x e)
 
+-- the last one that is put in a place stays
 set_twice : {A : Type 0} (xs : List A) (n : ℕ) (x y : A) → slice_set (slice_set xs n x) n y ≡ slice_set xs n y
 set_twice [] n x y = refl
 set_twice (z ∷ xs) zero x y = refl
 set_twice (z ∷ xs) (suc n) x y = ap (λ zs. z ∷ zs) (set_twice xs n x y)
 
+-- calls of the office in a place are happenings
 pub calls_happen : {K : Type 0} (sight : Sight K) → CallsHappen sight
 calls_happen sight v place o [] new at up asked same =
     subst (λ x. AreHappenings sight v [] [] (record { offices = slice_set v.offices place x; texts = v.texts }))

@@ -15,10 +15,12 @@ use Rattle.mr_calls.specs.Calls.{doubt_after}
 use Rattle.mr_calls.specs.CommandCalls.{ClientsAreCalls, ExchangesAreCalls, ServersAreCalls, ServesInTurn, ServingsAreCalls}
 use Rattle.mr_calls.proofs.CallChains.{in_turn_calls, known_opens}
 
+-- an exchange
 pub exchange_calls : {K : Type 0} (k : Ghosts K) → ExchangesAreCalls k
 exchange_calls k old new held holds status told clean opened =
     let (calls, of, turn) = exchange_asks k old new held holds status told in (calls, of, in_turn_calls k old new calls turn clean opened)
 
+-- a bridge, at its client
 pub client_calls : {C S : Type 0} (client : Ghosts C) (server : Ghosts S) → ClientsAreCalls client server
 client_calls client server old new held holds status told clean opened =
     let (calls, of, turn) = (bridge_asks client server old new held holds status told).0 in
@@ -26,10 +28,12 @@ client_calls client server old new held holds status told clean opened =
 
 -- ---- serving
 
+-- a keeper that is clean behind some connections was so before them
 connections_clean : {K : Type 0} (k : Ghosts K) (served : List (Option ℕ)) (old new : K) → AreConnections k old served new → k.is_clean new → k.is_clean old
 connections_clean k [] old new same clean = subst (λ x. k.is_clean x) (sym same) clean
 connections_clean k (s ∷ served) old new (m, (known, held, holds, (result, is, status)), rest) clean = is.clean (connections_clean k served m new rest clean)
 
+-- a call in front leaves the doubt as it is
 doubt_behind : (x : Command × Reply) (calls : List (Command × Reply)) (d : Command) → doubt_after calls ≡ Some d → doubt_after (x ∷ calls) ≡ Some d
 doubt_behind x [] d e = absurd (let z : ◌≡◌ {A = Option Command} None (Some d) = e in cc)
 doubt_behind x (c ∷ calls) d e = e
@@ -42,6 +46,7 @@ in_front k old m new c reply served clean opened heard (calls, n, are, inl same)
 in_front k old m new c reply served clean opened heard (calls, n, are, inr (d, doubt, more, rest)) =
     ((c, reply) ∷ calls, n, (m, served_is_called k old m c reply served clean opened, inl heard, are), inr (d, doubt_behind (c, reply) calls d doubt, more, rest))
 
+-- connections, up to a command that leaves the office in doubt
 serves_in_turn : {K : Type 0} (k : Ghosts K) (served : List (Option ℕ)) (old new : K) → AreConnections k old served new → k.is_clean new → k.is_open old → ServesInTurn k old new
 serves_in_turn k [] old new same clean opened = ([], old, refl, inl (sym same))
 serves_in_turn {K} k (s ∷ served) old new (m, (known, held, holds, (result, is, status)), rest) clean opened =
@@ -60,17 +65,20 @@ serves_in_turn {K} k (s ∷ served) old new (m, (known, held, holds, (result, is
     asked next (inl (same, given)) = subst (λ x. ServesInTurn k x new) same (next (subst (λ x. k.is_open x) (sym same) opened))
     asked next (inr (c, reply, one, asks, given)) = answered c reply one next (pending_after c reply) refl
 
+-- what is served are connections
 served_connected : {K : Type 0} (k : Ghosts K) (old new : K) (count : ℕ) (held holds : Option Text) (status : ℕ) → TellsServed k old new count held holds status
     → (served : List (Option ℕ)) × AreConnections k old served new
 served_connected k old new count held holds status (inl told) = (told.1, told.2)
 served_connected k old new count held holds status (inr (inl stops)) = (stops.0 ++ stops.1 ∷ [], stops.2)
 served_connected k old new count held holds status (inr (inr late)) = (late.1, late.3)
 
+-- a serving
 pub serving_calls : {K : Type 0} (k : Ghosts K) → ServingsAreCalls k
 serving_calls k old new port count held holds status (inl (between, line, told)) clean opened =
     let (served, are) = served_connected k old new count between holds status told in serves_in_turn k served old new are clean opened
 serving_calls k old new port count held holds status (inr (same, stops)) clean opened = ([], old, refl, inl same)
 
+-- a bridge, at its server
 pub server_calls : {C S : Type 0} (client : Ghosts C) (server : Ghosts S) → ServersAreCalls client server
 server_calls client server old new held holds status told clean opened =
     let (served, are) = (bridge_asks client server old new held holds status told).1 in serves_in_turn server served old.1 new.1 are clean opened
