@@ -46,9 +46,9 @@ export default Object.freeze({
   'acts.end': 'Jetzt beenden',
   'acts.ended': 'Beendet: {title}.',
   'acts.late': 'Nicht gebucht: Jemand war einen Augenblick schneller.',
-  'acts.notBooked': 'Nicht gebucht: {cause}.',
-  'acts.notDone': 'Nicht ausgeführt: {cause}.',
-  'acts.notEnded': 'Nicht beendet: {cause}.',
+  'acts.notBooked': 'Nicht gebucht ({cause}).',
+  'acts.notDone': 'Nicht ausgeführt ({cause}).',
+  'acts.notEnded': 'Nicht beendet ({cause}).',
   'acts.perhapsDone': 'Vielleicht ausgeführt ({cause}): Die nächste Anzeige zeigt es.',
   'acts.reallyEnd': 'Wirklich beenden?',
   'acts.released': 'Um {time} freigegeben: Niemand hat für „{title}“ eingecheckt.',
@@ -58,8 +58,8 @@ export default Object.freeze({
   'anyroom.allGone': 'Nicht gebucht: Was frei war, ist inzwischen belegt.',
   'anyroom.asking': { 0: 'Angefragt wird {where}.', one: 'Angefragt wird {where}, da ein anderer Raum inzwischen belegt ist.', other: 'Angefragt wird {where}, da {count} andere inzwischen belegt sind.' },
   'anyroom.noneFree': 'Nicht gebucht: So lange ist kein Raum frei.',
-  'anyroom.notBooked': 'Nicht gebucht: {cause}.',
-  'anyroom.notSent': 'Nicht gebucht: {cause}. Es wurde nichts gesendet; Sie können es noch einmal versuchen.',
+  'anyroom.notBooked': 'Nicht gebucht ({cause}).',
+  'anyroom.notSent': 'Nicht gebucht ({cause}). Es wurde nichts gesendet; Sie können es noch einmal versuchen.',
   'anyroom.perhaps': 'Vielleicht gebucht ({cause}): Sehen Sie im Tagesplan nach, bevor Sie erneut anfragen.',
   'anyroom.perhapsBooked': 'Vielleicht gebucht: {where} ({cause}). Sehen Sie im Tagesplan nach, bevor Sie erneut anfragen.',
   'anyroom.stillWaits': 'Anfrage {id} hat keinen Raum gefunden und kann noch einen bekommen: Ziehen Sie sie unter „Meine Anfragen“ zurück, bevor Sie erneut anfragen.',
@@ -72,22 +72,22 @@ export default Object.freeze({
 
   // ---- cancel
 
-  'cancel.cancelNotSent': 'Nicht storniert: {cause}. Es wurde nichts gesendet; Sie können noch einmal auf „Stornieren“ drücken.',
+  'cancel.cancelNotSent': 'Nicht storniert ({cause}). Es wurde nichts gesendet; Sie können noch einmal auf „Stornieren“ drücken.',
   'cancel.cancelled': 'Storniert: {title}, durch Anfrage {id}; noch nicht endgültig.',
   'cancel.cancelling': 'Wird storniert',
   'cancel.hadRoom': 'Inzwischen war ein Raum gefunden, die Buchung ist storniert: {title}, durch Anfrage {id}; noch nicht endgültig.',
-  'cancel.notCancelled': 'Nicht storniert: {cause}.',
-  'cancel.notWithdrawn': 'Nicht zurückgezogen: {cause}.',
+  'cancel.notCancelled': 'Nicht storniert ({cause}).',
+  'cancel.notWithdrawn': 'Nicht zurückgezogen ({cause}).',
   'cancel.nothing': 'Es gab keine Buchung zu stornieren: {title}. Findet die Anfrage später einen Raum, wird die Buchung dann storniert.',
-  'cancel.numbersUsed': 'die Nummern dieses Servers sind aufgebraucht. Bitte melden Sie es dem Betreiber',
+  'cancel.numbersUsed': 'die Nummern dieses Servers sind aufgebraucht; bitte melden Sie es dem Betreiber',
   'cancel.perhapsCancelled': 'Vielleicht storniert ({cause}): Der Stand hier zeigt es.',
   'cancel.perhapsWithdrawn': 'Vielleicht zurückgezogen ({cause}): Der Stand hier zeigt es.',
   'cancel.reallyCancel': 'Wirklich stornieren?',
   'cancel.reallyWithdraw': 'Wirklich zurückziehen?',
-  'cancel.timeReached': 'die höchste logische Zeit ist erreicht. Bitte melden Sie es dem Betreiber',
+  'cancel.timeReached': 'die höchste logische Zeit ist erreicht; bitte melden Sie es dem Betreiber',
   'cancel.unknownRequest': 'dieser Standort kennt die Anfrage nicht',
   'cancel.unknownRoom': 'dieser Standort kennt den Raum nicht',
-  'cancel.withdrawNotSent': 'Nicht zurückgezogen: {cause}. Es wurde nichts gesendet; Sie können noch einmal auf „Zurückziehen“ drücken.',
+  'cancel.withdrawNotSent': 'Nicht zurückgezogen ({cause}). Es wurde nichts gesendet; Sie können noch einmal auf „Zurückziehen“ drücken.',
   'cancel.withdrawing': 'Wird zurückgezogen',
   'cancel.withdrawn': 'Zurückgezogen: {title}, durch Anfrage {id}. Dafür gibt es keinen Raum mehr.',
 
@@ -201,13 +201,13 @@ export default Object.freeze({
   'form.day': 'Das ist kein Tag von 1990 bis 2099.',
   'form.length': 'Die Dauer ist eine ganze Zahl von 1 bis 1440 Minuten, und bei jeder Wahl endet der Termin spätestens um Mitternacht.',
   'form.mayGet': 'Bis die Standorte sich abgeglichen haben, kann die Anfrage noch einen bekommen. Nehmen Sie stattdessen ein Angebot an, wird sie zurückgezogen.',
-  'form.notSent': 'Nicht gebucht: {cause}. Es wurde nichts gesendet; Sie können noch einmal auf „Anfragen“ drücken.',
+  'form.notSent': 'Nicht gebucht ({cause}). Es wurde nichts gesendet; Sie können noch einmal auf „Anfragen“ drücken.',
   'form.numbersUsed': 'Die Nummern dieses Servers sind aufgebraucht: Der Standort braucht ein neues Replikat. Bitte melden Sie es dem Betreiber.',
   'form.past': '{date}, {hours} ist vorbei. Trotzdem anfragen?',
   'form.perhaps': 'Vielleicht gebucht ({cause}): Sehen Sie im Tagesplan nach, bevor Sie erneut anfragen. Von selbst wird nichts noch einmal gesendet.',
   'form.plainOnly': 'Es können nur einfache Buchstaben gespeichert werden, keine Umlaute, keine Akzente und keine anderen Schriften.',
   'form.reallyAsk': 'Trotzdem anfragen?',
-  'form.refused': 'Abgelehnt: {cause}.',
+  'form.refused': 'Abgelehnt ({cause}).',
   'form.room': 'Das ist kein Name eines Raums.',
   'form.sending': 'Wird gesendet. Fragt der Browser nach einem Passwort, wird nichts gesendet, bevor er eines hat.',
   'form.start': 'Der Beginn ist eine Uhrzeit von 00:00 bis 23:59.',
@@ -224,7 +224,7 @@ export default Object.freeze({
   'grid.booking': '{column}, {hours}, {title}, {state}',
   'grid.free': '{column}, {time}, frei',
   'grid.notFinal': '{hours}, nicht endgültig',
-  'grid.now': 'jetzt, {day} {time}',
+  'grid.now': 'jetzt: {day}, {time}',
   'grid.wish': 'Wunsch',
   'grid.wishAt': 'Wunsch {hours}',
   'grid.yourAlternative': '{column}, {time}, Ihre Alternative {number}',
@@ -244,7 +244,7 @@ export default Object.freeze({
   'grouplist.moved': '{day}, {hours}, {room}, {title}, Anfrage {id}, {moved}',
   'grouplist.none': 'Noch keine.',
   'grouplist.notCancelled': 'Nicht storniert: {title}, {date} ({cause}); der Rest blieb unverändert.',
-  'grouplist.notKept': 'Die Liste der Gruppe am Standort ist noch die bisherige: {cause}.',
+  'grouplist.notKept': 'Die Liste der Gruppe am Standort ist noch die bisherige ({cause}).',
   'grouplist.now': 'jetzt {date}, {start}',
   'grouplist.older': 'Dieser Standort speichert keine Gruppen: Sein Proxy ist noch auf einem älteren Stand.',
   'grouplist.perhapsNot': 'Die Stornierung von {title}, {date}, wurde vielleicht nicht ausgeführt; der Rest blieb unverändert.',
@@ -426,7 +426,7 @@ export default Object.freeze({
   'move.slot': '{room}, {hours}',
   'move.start': 'Beginn',
   'move.title': 'Titel',
-  'move.unread': 'Der Plan dieses Tages ist nicht lesbar: {cause}.',
+  'move.unread': 'Der Tagesplan ist nicht lesbar ({cause}).',
 
   // ---- movelist
 
@@ -440,11 +440,11 @@ export default Object.freeze({
   'movelist.leaveBoth': 'Beide behalten',
   'movelist.neither': 'Keine der beiden Buchungen besteht: {from} wurde storniert oder hat den Raum verloren, und {to} ist nicht gebucht.',
   'movelist.neitherWaiting': 'Keine der beiden Buchungen besteht: {from} wurde storniert oder hat den Raum verloren, und {to} hat keinen Raum, kann aber noch einen bekommen.',
-  'movelist.notBooked': 'Nicht gebucht: {cause}.',
+  'movelist.notBooked': 'Nicht gebucht ({cause}).',
   'movelist.notDone': 'Die Änderung wurde nicht ausgeführt: {from} besteht unverändert.',
   'movelist.notDoneWaiting': 'Die Änderung wurde nicht ausgeführt: {from} besteht unverändert. Die Anfrage für {to} hat keinen Raum, kann aber noch einen bekommen.',
   'movelist.oldCancelled': 'Die alte Buchung ist storniert: {slot}.',
-  'movelist.perhaps': 'Vielleicht nicht ausgeführt: {cause}. Der Stand wird erneut geprüft.',
+  'movelist.perhaps': 'Vielleicht nicht ausgeführt ({cause}). Der Stand wird erneut geprüft.',
   'movelist.refused': 'Nicht gebucht: {refusal}',
   'movelist.renamed': '{slot}, {title}',
   'movelist.slot': '{room}, {day}, {hours}',
@@ -463,14 +463,14 @@ export default Object.freeze({
   'moving.changed': 'Geändert: {title}, {slot}, Anfrage {id} anstelle von {old}; noch nicht endgültig.',
   'moving.fellBack': 'Nicht verschoben: {slot} war inzwischen belegt. Die Buchung hat wieder ihre alte Zeit, als Anfrage {id}.',
   'moving.gone': 'Nicht verschoben: Die Buchung war schon storniert oder hatte ihren Raum verloren. Es wurde nichts angefragt.',
-  'moving.inGroup': 'In ihrer Gruppe steht noch die alte Anfrage: {cause}.',
+  'moving.inGroup': 'In der Gruppe der Buchung steht noch die alte Anfrage ({cause}).',
   'moving.isTaken': '{hours} ist belegt: {title}.',
   'moving.later': 'Bis die Standorte sich abgeglichen haben, ist die neue Buchung nicht endgültig: Verliert sie dabei ihren Raum an eine frühere Anfrage, ist die alte trotzdem weg.',
   'moving.lost': 'Verloren: {why} Die alte Zeit, {slot}, wurde im selben Augenblick belegt. Fragen Sie eine andere an.',
   'moving.meanwhile': '{slot} war inzwischen belegt.',
   'moving.moved': 'Verschoben: {title}, {slot}, Anfrage {id} anstelle von {old}; noch nicht endgültig.',
   'moving.newFirst': 'Zuerst wird die neue Buchung angefragt; sobald sie gebucht ist, wird die alte storniert.',
-  'moving.notSent': 'Nicht verschoben: {cause}. Es wurde nichts gesendet; die Buchung besteht unverändert.',
+  'moving.notSent': 'Nicht verschoben ({cause}). Es wurde nichts gesendet; die Buchung besteht unverändert.',
   'moving.oldFirst': 'Die neue Zeit überschneidet sich mit der alten, daher wird die alte Buchung zuerst storniert: Einen Augenblick lang kann jemand anders ihre Zeit belegen.',
   'moving.otherWindow': 'Ein anderes Fenster dieses Browsers verschiebt sie gerade.',
   'moving.refused': 'Nicht verschoben: {refusal} Die Buchung besteht unverändert.',
@@ -490,7 +490,7 @@ export default Object.freeze({
   'news.lost': { one: '{count} Termin hat seinen Raum verloren', other: '{count} Termine haben ihren Raum verloren' },
   'news.moved': { one: '{count} Termin wurde verschoben', other: '{count} Termine wurden verschoben' },
   'news.movedToo': { one: '{count} wurde verschoben', other: '{count} wurden verschoben' },
-  'news.notMarked': 'Nicht als mitgeteilt vermerkt: {cause}. Sie können es noch einmal versuchen.',
+  'news.notMarked': 'Nicht als mitgeteilt vermerkt ({cause}). Sie können es noch einmal versuchen.',
 
   // ---- newslist
 
@@ -618,7 +618,7 @@ export default Object.freeze({
   'run.noMails': 'die E-Mail-Adresse wurde dafür nicht angenommen ({cause}), es gehen keine E-Mails dazu hinaus',
   'run.noReply': 'Es ist unklar, ob die Anfrage für {item} angekommen ist ({cause}); im Tagesplan steht sie jetzt nicht. Sehen Sie dort nach, bevor Sie weitermachen.',
   'run.notAsked': 'wurde nicht angefragt',
-  'run.notSent': 'Für {item} wurde nichts gesendet: {cause}.',
+  'run.notSent': 'Für {item} wurde nichts gesendet ({cause}).',
 
   // ---- search
 
@@ -630,7 +630,7 @@ export default Object.freeze({
 
   // ---- sending
 
-  'sending.refused': '{cause}.',
+  'sending.refused': 'Abgelehnt ({cause}).',
 
   // ---- series
 

@@ -79,12 +79,12 @@ export default Object.freeze({
   'cancel.notCancelled': 'Réservation non annulée : {cause}.',
   'cancel.notWithdrawn': 'Demande non retirée : {cause}.',
   'cancel.nothing': 'Il n’y avait pas de réservation à annuler : {title}. Si la demande trouve une salle plus tard, la réservation sera alors annulée.',
-  'cancel.numbersUsed': 'les numéros de ce serveur sont épuisés. Prévenez l’administrateur',
+  'cancel.numbersUsed': 'les numéros de ce serveur sont épuisés ; prévenez l’administrateur',
   'cancel.perhapsCancelled': 'Réservation peut-être annulée ({cause}) : son état ici le montre.',
   'cancel.perhapsWithdrawn': 'Demande peut-être retirée ({cause}) : son état ici le montre.',
   'cancel.reallyCancel': 'Vraiment annuler ?',
   'cancel.reallyWithdraw': 'Vraiment retirer ?',
-  'cancel.timeReached': 'le temps logique maximal est atteint. Prévenez l’administrateur',
+  'cancel.timeReached': 'le temps logique maximal est atteint ; prévenez l’administrateur',
   'cancel.unknownRequest': 'ce site ne connaît pas la demande',
   'cancel.unknownRoom': 'ce site ne connaît pas la salle',
   'cancel.withdrawNotSent': 'Demande non retirée : {cause}. Rien n’a été envoyé ; vous pouvez appuyer de nouveau sur « Retirer ».',
@@ -224,7 +224,7 @@ export default Object.freeze({
   'grid.booking': '{column}, {hours}, {title}, {state}',
   'grid.free': '{column}, {time}, libre',
   'grid.notFinal': '{hours}, non définitif',
-  'grid.now': 'maintenant, {day} {time}',
+  'grid.now': 'maintenant : {day}, {time}',
   'grid.wish': 'Souhait',
   'grid.wishAt': 'Souhait {hours}',
   'grid.yourAlternative': '{column}, {time}, votre autre choix {number}',
@@ -630,7 +630,7 @@ export default Object.freeze({
 
   // ---- sending
 
-  'sending.refused': '{cause}.',
+  'sending.refused': 'Demande refusée ({cause}).',
 
   // ---- series
 
