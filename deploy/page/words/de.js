@@ -551,7 +551,7 @@ export default Object.freeze({
   'plan.noDay': '„{day}“ ist kein Tag von 1990 bis 2099',
   'plan.noPlainLetter': 'der Titel hat keinen lateinischen Buchstaben',
   'plan.noTitle': 'hat keinen Titel',
-  'plan.ofList': '{title} aus dieser Liste',
+  'plan.ofList': '{title} (in dieser Liste)',
   'plan.past': 'Vergangen',
   'plan.refused': 'Abgelehnt',
   'plan.request': 'Anfrage {id}',

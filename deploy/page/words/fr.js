@@ -132,7 +132,7 @@ export default Object.freeze({
 
   // ---- elsewhere
 
-  'elsewhere.add': 'La personne qui gère ce site lui ajoute une salle avec rooms-office add-room.',
+  'elsewhere.add': 'La personne qui gère ce site peut lui ajouter une salle avec rooms-office add-room.',
   'elsewhere.hide': 'Masquer',
   'elsewhere.known': 'Pas sur cette page : {rooms}.',
   'elsewhere.room': '{label} (site {office})',
@@ -551,7 +551,7 @@ export default Object.freeze({
   'plan.noDay': '« {day} » n’est pas un jour de 1990 à 2099',
   'plan.noPlainLetter': 'son titre n’a aucune lettre latine',
   'plan.noTitle': 'n’a pas de titre',
-  'plan.ofList': '{title} de cette liste',
+  'plan.ofList': '{title} (dans cette liste)',
   'plan.past': 'Passé',
   'plan.refused': 'Refusé',
   'plan.request': 'demande {id}',
