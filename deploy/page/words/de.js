@@ -38,7 +38,7 @@ export default Object.freeze({
 
   // ---- acts
 
-  'acts.book': 'Für {length} min buchen',
+  'acts.book': 'Für {length} min buchen',
   'acts.booked': 'Gebucht bis {time}.',
   'acts.checkIn': 'Einchecken',
   'acts.checkInBy': 'Einchecken bis {time}',
@@ -119,7 +119,7 @@ export default Object.freeze({
   'door.door': 'Tür',
   'door.free': 'Frei',
   'door.next': 'Danach: {hours} {title}',
-  'door.nextDay': 'Danach: {weekday} {hours} {title}',
+  'door.nextDay': 'Danach: {weekday}, {hours} {title}',
   'door.noNews': 'Keine Verbindung und noch keine Daten',
   'door.nothingElse': 'Heute nichts mehr',
   'door.nothingKnown': 'Für heute ist noch nichts bekannt.',
@@ -174,7 +174,7 @@ export default Object.freeze({
   'figures.outside': 'Außerhalb der Öffnungszeiten',
   'figures.pages': 'Seiten',
   'figures.part': 'Auslastung',
-  'figures.percent': '{percent} %',
+  'figures.percent': '{percent} %',
   'figures.room': 'Raum',
   'figures.table': 'Alles als Tabelle (CSV, in Minuten)',
   'figures.to': 'Bis',
@@ -220,13 +220,13 @@ export default Object.freeze({
   // ---- grid
 
   'grid.alternative': 'Alternative {number}',
-  'grid.alternativeAt': 'Alternative {number} {hours}',
+  'grid.alternativeAt': 'Alternative {number}: {hours}',
   'grid.booking': '{column}, {hours}, {title}, {state}',
   'grid.free': '{column}, {time}, frei',
   'grid.notFinal': '{hours}, nicht endgültig',
   'grid.now': 'jetzt: {day}, {time}',
   'grid.wish': 'Wunsch',
-  'grid.wishAt': 'Wunsch {hours}',
+  'grid.wishAt': 'Wunsch: {hours}',
   'grid.yourAlternative': '{column}, {time}, Ihre Alternative {number}',
   'grid.yourWish': '{column}, {time}, Ihr Wunsch',
 
@@ -263,7 +263,7 @@ export default Object.freeze({
   // ---- importing
 
   'importing.before': 'schon früher angefragt, als Anfrage {id}',
-  'importing.big': 'Die Datei hat mehr als {size} MB.',
+  'importing.big': 'Die Datei hat mehr als {size} MB.',
   'importing.many': 'Die Datei hat mehr als {most} Buchungen: Teilen Sie sie auf.',
   'importing.noRoom': 'nennt keinen Raum',
   'importing.none': 'Die Datei enthält keine Buchung.',
@@ -379,7 +379,7 @@ export default Object.freeze({
   'met.neverFault': 'Noch kein Abgleich mit {name} ({fault}).',
   'met.silent': 'Der Dienst des Standorts hat noch nie etwas geschrieben.',
   'met.silentSince': 'Der Dienst des Standorts hat seit {moment} nichts geschrieben.',
-  'met.waiting': { 0: 'Alle Anfragen sind endgültig.', one: '{count} Anfrage ist noch nicht endgültig.', other: '{count} Anfragen sind noch nicht endgültig.' },
+  'met.waiting': { 0: 'Keine Anfrage wartet darauf, endgültig zu werden.', one: '{count} Anfrage ist noch nicht endgültig.', other: '{count} Anfragen sind noch nicht endgültig.' },
 
   // ---- mine
 

@@ -38,17 +38,17 @@ export default Object.freeze({
 
   // ---- acts
 
-  'acts.book': 'Réserver {length} min',
+  'acts.book': 'Réserver {length} min',
   'acts.booked': 'Réservé jusqu’à {time}.',
   'acts.checkIn': 'Confirmer la présence',
   'acts.checkInBy': 'Confirmer la présence avant {time}',
   'acts.checkedIn': 'Présence confirmée : {title}.',
   'acts.end': 'Terminer maintenant',
-  'acts.ended': 'Terminé : {title}.',
+  'acts.ended': 'Réunion terminée : {title}.',
   'acts.late': 'Non réservé : quelqu’un a été un instant plus rapide.',
   'acts.notBooked': 'Non réservé : {cause}.',
   'acts.notDone': 'Non effectué : {cause}.',
-  'acts.notEnded': 'Non terminé : {cause}.',
+  'acts.notEnded': 'Réunion non terminée : {cause}.',
   'acts.perhapsDone': 'Peut-être effectué ({cause}) : regardez ce qui s’affiche ensuite.',
   'acts.reallyEnd': 'Vraiment terminer ?',
   'acts.released': 'Libérée à {time} : personne n’a confirmé sa présence pour « {title} ».',
@@ -220,13 +220,13 @@ export default Object.freeze({
   // ---- grid
 
   'grid.alternative': 'Autre choix {number}',
-  'grid.alternativeAt': 'Autre choix {number} {hours}',
+  'grid.alternativeAt': 'Autre choix {number} : {hours}',
   'grid.booking': '{column}, {hours}, {title}, {state}',
   'grid.free': '{column}, {time}, libre',
   'grid.notFinal': '{hours}, non définitif',
   'grid.now': 'maintenant : {day}, {time}',
   'grid.wish': 'Souhait',
-  'grid.wishAt': 'Souhait {hours}',
+  'grid.wishAt': 'Souhait : {hours}',
   'grid.yourAlternative': '{column}, {time}, votre autre choix {number}',
   'grid.yourWish': '{column}, {time}, votre souhait',
 
@@ -263,7 +263,7 @@ export default Object.freeze({
   // ---- importing
 
   'importing.before': 'déjà demandé auparavant, demande {id}',
-  'importing.big': 'Le fichier dépasse {size} Mo.',
+  'importing.big': 'Le fichier dépasse {size} Mo.',
   'importing.many': 'Le fichier contient plus de {most} réservations : partagez-le en plusieurs fichiers.',
   'importing.noRoom': 'n’indique aucune salle',
   'importing.none': 'Le fichier ne contient aucune réservation.',
@@ -379,7 +379,7 @@ export default Object.freeze({
   'met.neverFault': 'Jamais synchronisé avec {name} ({fault}).',
   'met.silent': 'Le service du site n’a encore rien écrit.',
   'met.silentSince': 'Le service du site n’a rien écrit depuis {moment}.',
-  'met.waiting': { 0: 'Toutes les demandes sont définitives.', one: '{count} demande n’est pas encore définitive.', other: '{count} demandes ne sont pas encore définitives.' },
+  'met.waiting': { 0: 'Aucune demande n’attend d’être définitive.', one: '{count} demande n’est pas encore définitive.', other: '{count} demandes ne sont pas encore définitives.' },
 
   // ---- mine
 
@@ -438,11 +438,11 @@ export default Object.freeze({
   'movelist.done': 'La modification a été faite : {to} est réservé, demande {id}, et l’ancienne réservation n’existe plus.',
   'movelist.fellBack': '{to} était occupé. Ce qui est réservé : {slot}, demande {id} ; l’ancienne réservation n’existe plus.',
   'movelist.leaveBoth': 'Garder les deux',
-  'movelist.neither': 'Aucune des deux n’existe : {from} a été annulé ou a perdu sa salle, et {to} n’est pas réservé.',
-  'movelist.neitherWaiting': 'Aucune des deux n’existe : {from} a été annulé ou a perdu sa salle, et {to} n’a pas de salle, mais peut encore en obtenir une.',
+  'movelist.neither': 'Aucune des deux n’existe : la réservation {from} a été annulée ou a perdu sa salle, et {to} n’est pas réservé.',
+  'movelist.neitherWaiting': 'Aucune des deux n’existe : la réservation {from} a été annulée ou a perdu sa salle, et {to} n’a pas de salle, mais peut encore en obtenir une.',
   'movelist.notBooked': 'Non réservé : {cause}.',
-  'movelist.notDone': 'La modification n’a pas été faite : {from} reste tel quel.',
-  'movelist.notDoneWaiting': 'La modification n’a pas été faite : {from} reste tel quel. La demande pour {to} n’a pas de salle, mais peut encore en obtenir une.',
+  'movelist.notDone': 'La modification n’a pas été faite : la réservation {from} reste telle quelle.',
+  'movelist.notDoneWaiting': 'La modification n’a pas été faite : la réservation {from} reste telle quelle. La demande pour {to} n’a pas de salle, mais peut encore en obtenir une.',
   'movelist.oldCancelled': 'L’ancienne réservation est annulée : {slot}.',
   'movelist.perhaps': 'Peut-être non effectué : {cause}. La situation est vérifiée à nouveau.',
   'movelist.refused': 'Non réservé. {refusal}',
