@@ -449,7 +449,7 @@ export default Object.freeze({
   'movelist.renamed': '{slot}, {title}',
   'movelist.slot': '{room}, {day}, {hours}',
   'movelist.taken': 'Nicht gebucht: {slot} ist belegt.',
-  'movelist.takenBack': 'Die neue Anfrage {id} ist zurückgenommen; {slot} bleibt gebucht.',
+  'movelist.takenBack': 'Die neue Anfrage {id} ist zurückgenommen; {slot} ist weiterhin gebucht.',
   'movelist.unknown': 'Was davon besteht, ist noch nicht bekannt ({cause}). Es wird erneut geprüft.',
   'movelist.withdraw': 'Diese Anfrage zurückziehen',
 

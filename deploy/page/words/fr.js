@@ -449,7 +449,7 @@ export default Object.freeze({
   'movelist.renamed': '{slot}, {title}',
   'movelist.slot': '{room}, {day}, {hours}',
   'movelist.taken': 'Non réservé : {slot} est occupé.',
-  'movelist.takenBack': 'La nouvelle demande {id} est abandonnée ; {slot} reste réservé.',
+  'movelist.takenBack': 'La nouvelle demande {id} est abandonnée ; {slot} est toujours réservé.',
   'movelist.unknown': 'On ne sait pas encore ce qu’il en est ({cause}). Une nouvelle vérification va suivre.',
   'movelist.withdraw': 'Retirer cette demande',
 
