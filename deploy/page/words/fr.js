@@ -203,7 +203,7 @@ export default Object.freeze({
   'form.mayGet': 'La demande peut encore en obtenir une jusqu’à la synchronisation des sites. Si vous prenez une offre à la place, la demande est retirée.',
   'form.notSent': 'Non réservé : {cause}. Rien n’a été envoyé ; vous pouvez appuyer de nouveau sur « Demander ».',
   'form.numbersUsed': 'Les numéros de ce serveur sont épuisés : le site a besoin d’un nouveau réplica. Prévenez l’administrateur.',
-  'form.past': '{date}, {hours} : c’est passé. Demander quand même ?',
+  'form.past': '{date}, {hours} : c’est déjà passé. Demander quand même ?',
   'form.perhaps': 'Peut-être réservé ({cause}) : regardez le planning avant de redemander. Rien n’est renvoyé automatiquement.',
   'form.plainOnly': 'Seules les lettres simples peuvent être conservées, sans accents ni autres écritures.',
   'form.reallyAsk': 'Demander quand même ?',
@@ -343,7 +343,7 @@ export default Object.freeze({
   // ---- mail
 
   'mail.given': 'Les suites de la demande {id} sont envoyées à cette adresse par e-mail.',
-  'mail.notTaken': 'L’adresse e-mail n’a pas été prise pour la demande {id} ({cause}) : elle ne reçoit pas d’e-mails.',
+  'mail.notTaken': 'L’adresse e-mail n’a pas été prise pour la demande {id} ({cause}) : aucun e-mail ne sera envoyé à son sujet.',
   'mail.ofEach': 'Reçoit un e-mail à chaque changement de chacune des demandes. Plus personne ne pourra lire l’adresse ici.',
   'mail.wrong': 'Ce n’est pas une adresse e-mail en lettres simples, comme anna@example.org. Laissez le champ vide pour ne pas recevoir d’e-mails.',
 
@@ -458,7 +458,7 @@ export default Object.freeze({
   'moving.asking': 'Demande de la nouvelle réservation en cours.',
   'moving.back': 'Si le nouvel horaire est pris d’ici là, l’ancien est redemandé.',
   'moving.backAgain': 'Réservation non modifiée. {why} La réservation a retrouvé son ancien horaire, demande {id}.',
-  'moving.brokenOff': 'Le changement a été interrompu ({cause}). Ce qu’il en est s’affiche en haut de la page.',
+  'moving.brokenOff': 'La modification a été interrompue ({cause}). Ce qu’il en est s’affiche en haut de la page.',
   'moving.cancelling': 'Annulation de l’ancienne réservation en cours.',
   'moving.changed': 'Réservation modifiée : {title}, {slot}, demande {id}, à la place de {old} ; pas encore définitive.',
   'moving.fellBack': 'Réservation non déplacée : {slot} a été pris entre-temps. La réservation a retrouvé son ancien horaire, demande {id}.',
