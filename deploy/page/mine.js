@@ -7,7 +7,7 @@ import { follow } from './follow.js';
 import { openMove } from './move.js';
 import { sure } from './question.js';
 import { chipOf, stateOf } from './states.js';
-import { pieces, say } from './words.js';
+import { capital, pieces, say } from './words.js';
 
 const FEW = 4;
 let mine = [];
@@ -138,7 +138,7 @@ function dayItem(day, entries, isOpen) {
   const lost = entries.filter(entry => entry.now && !isBooked(entry) && entry.now.state !== 'cancelled' && !entry.withdrawn).length;
   const requests = el('span', { className: 'count' }, say('all.requests', { count: entries.length }));
   const without = el('span', { className: 'bad' }, say('mine.withoutRoom', { count: lost }));
-  const summary = el('summary', {}, ...pieces(lost ? 'mine.dayLost' : 'mine.day', { day: dayText(day, 'short'), requests, without }));
+  const summary = el('summary', {}, ...pieces(lost ? 'mine.dayLost' : 'mine.day', { day: capital(dayText(day, 'short')), requests, without }));
   const details = el('details', { open: folded.get(day) ?? isOpen, 'aria-label': dateText(day) }, summary, el('ul', {}, ...entries.map(itemOf)));
   summary.addEventListener('click', () => folded.set(day, !details.open));
   summary.dataset.key = 'day ' + day;

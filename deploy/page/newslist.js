@@ -6,7 +6,7 @@ import { askAgain } from './wish.js';
 import { newsLine, slotOf, tell, untold } from './news.js';
 import { sure } from './question.js';
 import { chipOf } from './states.js';
-import { say } from './words.js';
+import { capital, say } from './words.js';
 
 const MOST_OPEN = 10, MOST_OF_DAY = 40;
 const folded = new Map();     // days that were opened or shut by hand
@@ -80,7 +80,7 @@ async function tellDay(day, entries) {
 
 function dayItem(day, entries, isFew) {
   const isShown = folded.get(day) ?? isFew, count = whole.has(day) ? entries.length : MOST_OF_DAY;
-  const summary = el('summary', {}, say('newslist.day', { day: dayText(day), changes: newsLine(entries) }));
+  const summary = el('summary', {}, say('newslist.day', { day: capital(dayText(day)), changes: newsLine(entries) }));
   summary.dataset.key = 'newsfold ' + day;
   summary.addEventListener('click', event => {
     event.preventDefault();

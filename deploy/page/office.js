@@ -24,7 +24,7 @@ export const clock = date => clockOf(date, office.zone).time;
 /** A moment in words: its time, and its day where that isn't today. */
 export function momentOf(date) {
   const { day, time } = clockOf(date, office.zone), today = now().day, short = time.slice(0, 5);
-  return day === today ? short : dayText(day, 'short') + ' ' + short;
+  return day === today ? short : say('all.dayTime', { day: dayText(day, 'short'), time: short });
 }
 export const labelOf = room => (office.rooms.find(each => each.name === room) || {}).label || room;
 

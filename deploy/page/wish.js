@@ -5,7 +5,7 @@ import { calm } from './fields.js';
 import { offerTaken, showOffers, standsFor, standsForNone } from './offers.js';
 import { sure } from './question.js';
 import { report, reportNoMore } from './states.js';
-import { say } from './words.js';
+import { capital, say } from './words.js';
 
 export const LONGEST = 60;
 let alternatives = [];
@@ -112,7 +112,7 @@ export function showForm() {
       { 'aria-label': say('wish.takeBackSlot', { slot: slotText(slot) }) }))));
   const [first] = choices();
   const hours = isWished() ? hoursText(first.from, first.to) : '';
-  put({ 'wish-words': hours && isDay(first.day) ? say('wish.when', { day: dayText(first.day), hours }) : '',
+  put({ 'wish-words': hours && isDay(first.day) ? say('wish.when', { day: capital(dayText(first.day)), hours }) : '',
     clash: hours && clashWords(first), 'go-on': hours && say('wish.goOn', { room: labelOf(first.room), hours }) });
   byId('go-on').hidden = !hours;
   countTitle();

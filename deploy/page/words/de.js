@@ -8,12 +8,12 @@ export default Object.freeze({
   'all.change': 'Ändern',
   'all.close': 'Schließen',
   'all.dayTime': '{day}, {time}',
-  'all.labelled': '{words}: {title}',
+  'all.labelled': '{words} – {title}',
   'all.leaveIt': 'So lassen',
   'all.midnight': 'Ein Termin endet spätestens um Mitternacht.',
   'all.moved': 'Verschoben vom {from} auf den {to}.',
   'all.no': 'Nein',
-  'all.notRead': 'Noch nicht gelesen.',
+  'all.notRead': 'Noch nicht geladen.',
   'all.outcome': '{state}: {where} (Anfrage {id}).',
   'all.requests': { one: '{count} Anfrage', other: '{count} Anfragen' },
   'all.showDay': 'Tag anzeigen',
@@ -27,39 +27,39 @@ export default Object.freeze({
 
   // ---- fault
 
-  'fault.failing': 'Speicher oder Datenträger versagt: {cause}',
+  'fault.failing': 'Datenträger oder Arbeitsspeicher versagt: {cause}',
   'fault.mayNotBook': 'dieser Benutzer darf nicht buchen, oder das Passwort wurde abgelehnt',
   'fault.noReply': 'keine Antwort',
   'fault.noRooms': 'rooms.json ist kein JSON',
   'fault.notTaking': 'der Standort nimmt gerade keine Anfragen an',
   'fault.password': 'das Passwort wurde abgelehnt',
   'fault.status': 'Status {status}',
-  'fault.unreadable': 'sie ist nicht lesbar',
+  'fault.unreadable': 'die Anfrage ist nicht lesbar',
 
   // ---- acts
 
-  'acts.book': 'Für {length} min buchen',
+  'acts.book': 'Für {length} min buchen',
   'acts.booked': 'Gebucht bis {time}.',
   'acts.checkIn': 'Einchecken',
   'acts.checkInBy': 'Einchecken bis {time}',
   'acts.checkedIn': 'Eingecheckt: {title}.',
-  'acts.end': 'Beenden',
+  'acts.end': 'Jetzt beenden',
   'acts.ended': 'Beendet: {title}.',
   'acts.late': 'Nicht gebucht: Jemand war einen Augenblick schneller.',
-  'acts.notBooked': 'Nicht gebucht: {cause}.',
-  'acts.notDone': 'Nicht ausgeführt: {cause}.',
-  'acts.notEnded': 'Nicht beendet: {cause}.',
+  'acts.notBooked': 'Nicht gebucht ({cause}).',
+  'acts.notDone': 'Nicht ausgeführt ({cause}).',
+  'acts.notEnded': 'Nicht beendet ({cause}).',
   'acts.perhapsDone': 'Vielleicht ausgeführt ({cause}): Die nächste Anzeige zeigt es.',
   'acts.reallyEnd': 'Wirklich beenden?',
-  'acts.released': 'Um {time} freigegeben: Niemand hat für {title} eingecheckt.',
+  'acts.released': 'Um {time} freigegeben: Niemand hat für „{title}“ eingecheckt.',
 
   // ---- anyroom
 
   'anyroom.allGone': 'Nicht gebucht: Was frei war, ist inzwischen belegt.',
   'anyroom.asking': { 0: 'Angefragt wird {where}.', one: 'Angefragt wird {where}, da ein anderer Raum inzwischen belegt ist.', other: 'Angefragt wird {where}, da {count} andere inzwischen belegt sind.' },
   'anyroom.noneFree': 'Nicht gebucht: So lange ist kein Raum frei.',
-  'anyroom.notBooked': 'Nicht gebucht: {cause}.',
-  'anyroom.notSent': 'Nicht gebucht: {cause}. Es wurde nichts gesendet; Sie können es noch einmal versuchen.',
+  'anyroom.notBooked': 'Nicht gebucht ({cause}).',
+  'anyroom.notSent': 'Nicht gebucht ({cause}). Es wurde nichts gesendet; Sie können es noch einmal versuchen.',
   'anyroom.perhaps': 'Vielleicht gebucht ({cause}): Sehen Sie im Tagesplan nach, bevor Sie erneut anfragen.',
   'anyroom.perhapsBooked': 'Vielleicht gebucht: {where} ({cause}). Sehen Sie im Tagesplan nach, bevor Sie erneut anfragen.',
   'anyroom.stillWaits': 'Anfrage {id} hat keinen Raum gefunden und kann noch einen bekommen: Ziehen Sie sie unter „Meine Anfragen“ zurück, bevor Sie erneut anfragen.',
@@ -72,22 +72,22 @@ export default Object.freeze({
 
   // ---- cancel
 
-  'cancel.cancelNotSent': 'Nicht storniert: {cause}. Es wurde nichts gesendet; Sie können noch einmal auf „Stornieren“ drücken.',
+  'cancel.cancelNotSent': 'Nicht storniert ({cause}). Es wurde nichts gesendet; Sie können noch einmal auf „Stornieren“ drücken.',
   'cancel.cancelled': 'Storniert: {title}, durch Anfrage {id}; noch nicht endgültig.',
   'cancel.cancelling': 'Wird storniert',
   'cancel.hadRoom': 'Inzwischen war ein Raum gefunden, die Buchung ist storniert: {title}, durch Anfrage {id}; noch nicht endgültig.',
-  'cancel.notCancelled': 'Nicht storniert: {cause}.',
-  'cancel.notWithdrawn': 'Nicht zurückgezogen: {cause}.',
-  'cancel.nothing': 'Es gab keine Buchung zu stornieren: {title}. Findet die Anfrage später einen Raum, wird sie dann storniert.',
-  'cancel.numbersUsed': 'die Nummern dieses Servers sind aufgebraucht. Bitte melden Sie es dem Betreiber',
+  'cancel.notCancelled': 'Nicht storniert ({cause}).',
+  'cancel.notWithdrawn': 'Nicht zurückgezogen ({cause}).',
+  'cancel.nothing': 'Es gab keine Buchung zu stornieren: {title}. Findet die Anfrage später einen Raum, wird die Buchung dann storniert.',
+  'cancel.numbersUsed': 'die Nummern dieses Servers sind aufgebraucht; bitte melden Sie es dem Betreiber',
   'cancel.perhapsCancelled': 'Vielleicht storniert ({cause}): Der Stand hier zeigt es.',
   'cancel.perhapsWithdrawn': 'Vielleicht zurückgezogen ({cause}): Der Stand hier zeigt es.',
   'cancel.reallyCancel': 'Wirklich stornieren?',
   'cancel.reallyWithdraw': 'Wirklich zurückziehen?',
-  'cancel.timeReached': 'die größte logische Zeit ist erreicht. Bitte melden Sie es dem Betreiber',
+  'cancel.timeReached': 'die höchste logische Zeit ist erreicht; bitte melden Sie es dem Betreiber',
   'cancel.unknownRequest': 'dieser Standort kennt die Anfrage nicht',
   'cancel.unknownRoom': 'dieser Standort kennt den Raum nicht',
-  'cancel.withdrawNotSent': 'Nicht zurückgezogen: {cause}. Es wurde nichts gesendet; Sie können noch einmal auf „Zurückziehen“ drücken.',
+  'cancel.withdrawNotSent': 'Nicht zurückgezogen ({cause}). Es wurde nichts gesendet; Sie können noch einmal auf „Zurückziehen“ drücken.',
   'cancel.withdrawing': 'Wird zurückgezogen',
   'cancel.withdrawn': 'Zurückgezogen: {title}, durch Anfrage {id}. Dafür gibt es keinen Raum mehr.',
 
@@ -95,14 +95,14 @@ export default Object.freeze({
 
   'coming.none': 'Keine Buchungen an diesen Tagen.',
   'coming.title': '{room}, {from} bis {to}',
-  'coming.unread': { one: '{count} Tag ist noch nicht gelesen.', other: '{count} Tage sind noch nicht gelesen.' },
+  'coming.unread': { one: '{count} Tag ist noch nicht geladen.', other: '{count} Tage sind noch nicht geladen.' },
 
   // ---- desk
 
   'desk.find': 'Freie Räume, {day}',
   'desk.fresh': 'Stand: {time}; wird alle 30 Sekunden aktualisiert.',
   'desk.lost': 'Keine Verbindung zum Standort seit {time} ({cause}).',
-  'desk.noDay': 'Den Tag {day} gibt es nicht; dies ist der heutige.',
+  'desk.noDay': 'Den Tag {day} gibt es nicht; gezeigt wird der heutige.',
   'desk.noRoom': 'Den Raum {room} gibt es nicht.',
   'desk.noSheet': 'Es ist kein Tagesplan vorhanden.',
   'desk.noView': 'Die Ansicht {view} gibt es nicht.',
@@ -119,12 +119,12 @@ export default Object.freeze({
   'door.door': 'Tür',
   'door.free': 'Frei',
   'door.next': 'Danach: {hours} {title}',
-  'door.nextDay': 'Danach: {weekday} {hours} {title}',
-  'door.noNews': 'Keine Verbindung, und noch keine Nachricht',
+  'door.nextDay': 'Danach: {weekday}, {hours} {title}',
+  'door.noNews': 'Keine Verbindung und noch keine Daten',
   'door.nothingElse': 'Heute nichts mehr',
-  'door.nothingKnown': 'Von heute ist noch nichts bekannt.',
+  'door.nothingKnown': 'Für heute ist noch nichts bekannt.',
   'door.now': 'Dieser Raum jetzt',
-  'door.oldNews': 'Keine Verbindung. Letzte Nachricht von {time}',
+  'door.oldNews': 'Keine Verbindung. Stand: {time}',
   'door.restOfDay': 'für den Rest des Tages',
   'door.taken': 'Belegt',
   'door.until': 'bis {time}',
@@ -134,8 +134,8 @@ export default Object.freeze({
 
   'elsewhere.add': 'Wer diesen Standort betreut, fügt ihm mit rooms-office add-room einen Raum hinzu.',
   'elsewhere.hide': 'Ausblenden',
-  'elsewhere.known': 'Diese Seite zeigt nicht: {rooms}.',
-  'elsewhere.room': '{label}, von {office}',
+  'elsewhere.known': 'Nicht auf dieser Seite: {rooms}.',
+  'elsewhere.room': '{label} (Standort {office})',
   'elsewhere.unknown': { one: 'Ein anderer Standort hat: {rooms}. Hier ist der Raum noch nicht bekannt und kann noch nicht gebucht werden.', other: 'Ein anderer Standort hat: {rooms}. Hier sind die Räume noch nicht bekannt und können noch nicht gebucht werden.' },
 
   // ---- errorlist
@@ -145,7 +145,7 @@ export default Object.freeze({
   'errorlist.none': '(keine)',
   'errorlist.request': '{id}: {date}, {hours}, {title}',
   'errorlist.requestOpen': '{id}: {date}, {hours}, {title} (noch nicht endgültig)',
-  'errorlist.withdrawn': '{id}: {date}, {hours}, {title} (noch nicht endgültig), zurückgezogen durch {by}',
+  'errorlist.withdrawn': '{id}: {date}, {hours}, {title} (noch nicht endgültig), zurückgezogen durch Anfrage {by}',
 
   // ---- figures
 
@@ -159,7 +159,7 @@ export default Object.freeze({
   'figures.day': 'Tag',
   'figures.desk': 'Zum Empfang',
   'figures.drawing': 'Alles als Grafik',
-  'figures.figures': 'Auslastung',
+  'figures.figures': 'Auswertung',
   'figures.from': 'Von',
   'figures.hint': 'Als gebucht zählen die Stunden innerhalb der Öffnungszeiten; die übrigen stehen daneben. Was keinen Raum fand und nicht zurückgezogen wurde, zählt für den gewünschten Tag; was ein Abgleich verschoben oder verdrängt hat, wird nur für die eigenen Anfragen dieses Standorts aus den letzten Wochen gezählt.',
   'figures.hours': '{hours} h',
@@ -173,8 +173,8 @@ export default Object.freeze({
   'figures.open': 'Geöffnet',
   'figures.outside': 'Außerhalb der Öffnungszeiten',
   'figures.pages': 'Seiten',
-  'figures.part': 'Anteil',
-  'figures.percent': '{percent} %',
+  'figures.part': 'Auslastung',
+  'figures.percent': '{percent} %',
   'figures.room': 'Raum',
   'figures.table': 'Alles als Tabelle (CSV, in Minuten)',
   'figures.to': 'Bis',
@@ -190,7 +190,7 @@ export default Object.freeze({
   'find.ask': 'Bitte eine Dauer in Minuten und zwei Uhrzeiten angeben.',
   'find.none': 'Kein Raum hat all das.',
   'find.notFree': 'Nicht so lange frei.',
-  'find.take': '{room} ist frei, {day} {hours}: anfragen',
+  'find.take': '{room} ist frei am {day}, {hours}: anfragen',
 
   // ---- form
 
@@ -201,18 +201,18 @@ export default Object.freeze({
   'form.day': 'Das ist kein Tag von 1990 bis 2099.',
   'form.length': 'Die Dauer ist eine ganze Zahl von 1 bis 1440 Minuten, und bei jeder Wahl endet der Termin spätestens um Mitternacht.',
   'form.mayGet': 'Bis die Standorte sich abgeglichen haben, kann die Anfrage noch einen bekommen. Nehmen Sie stattdessen ein Angebot an, wird sie zurückgezogen.',
-  'form.notSent': 'Nicht gebucht: {cause}. Es wurde nichts gesendet; Sie können noch einmal auf „Anfragen“ drücken.',
+  'form.notSent': 'Nicht gebucht ({cause}). Es wurde nichts gesendet; Sie können noch einmal auf „Anfragen“ drücken.',
   'form.numbersUsed': 'Die Nummern dieses Servers sind aufgebraucht: Der Standort braucht ein neues Replikat. Bitte melden Sie es dem Betreiber.',
   'form.past': '{date}, {hours} ist vorbei. Trotzdem anfragen?',
   'form.perhaps': 'Vielleicht gebucht ({cause}): Sehen Sie im Tagesplan nach, bevor Sie erneut anfragen. Von selbst wird nichts noch einmal gesendet.',
   'form.plainOnly': 'Es können nur einfache Buchstaben gespeichert werden, keine Umlaute, keine Akzente und keine anderen Schriften.',
   'form.reallyAsk': 'Trotzdem anfragen?',
-  'form.refused': 'Abgelehnt: {cause}.',
+  'form.refused': 'Abgelehnt ({cause}).',
   'form.room': 'Das ist kein Name eines Raums.',
-  'form.sending': 'Wird gesendet. Fragt der Browser nach einem Passwort, wird vorher nichts gesendet.',
+  'form.sending': 'Wird gesendet. Fragt der Browser nach einem Passwort, wird nichts gesendet, bevor er eines hat.',
   'form.start': 'Der Beginn ist eine Uhrzeit von 00:00 bis 23:59.',
   'form.taken': 'Kein Raum: {room} ist am {slot} belegt.',
-  'form.timeReached': 'Die größte logische Zeit ist erreicht: Dieser Standort nimmt keine Anfragen mehr an. Bitte melden Sie es dem Betreiber.',
+  'form.timeReached': 'Die höchste logische Zeit ist erreicht: Dieser Standort nimmt keine Anfragen mehr an. Bitte melden Sie es dem Betreiber.',
   'form.titleHas': 'Dieser hat {number}.',
   'form.unknownRoom': 'Dieser Standort kennt den Raum nicht: Der Betreiber muss ihn hinzufügen oder mit einem Standort abgleichen, der ihn hat.',
   'form.unreadable': 'die Anfrage ist nicht lesbar',
@@ -220,15 +220,15 @@ export default Object.freeze({
   // ---- grid
 
   'grid.alternative': 'Alternative {number}',
-  'grid.alternativeAt': 'Alternative {number} {hours}',
+  'grid.alternativeAt': 'Alternative {number}: {hours}',
   'grid.booking': '{column}, {hours}, {title}, {state}',
-  'grid.free': '{column}, {time} frei',
+  'grid.free': '{column}, {time}, frei',
   'grid.notFinal': '{hours}, nicht endgültig',
-  'grid.now': 'jetzt, {day} {time}',
+  'grid.now': 'jetzt: {day}, {time}',
   'grid.wish': 'Wunsch',
-  'grid.wishAt': 'Wunsch {hours}',
-  'grid.yourAlternative': '{column}, {time} Ihre Alternative {number}',
-  'grid.yourWish': '{column}, {time} Ihr Wunsch',
+  'grid.wishAt': 'Wunsch: {hours}',
+  'grid.yourAlternative': '{column}, {time}, Ihre Alternative {number}',
+  'grid.yourWish': '{column}, {time}, Ihr Wunsch',
 
   // ---- grouplist
 
@@ -244,16 +244,16 @@ export default Object.freeze({
   'grouplist.moved': '{day}, {hours}, {room}, {title}, Anfrage {id}, {moved}',
   'grouplist.none': 'Noch keine.',
   'grouplist.notCancelled': 'Nicht storniert: {title}, {date} ({cause}); der Rest blieb unverändert.',
-  'grouplist.notKept': 'Die Liste der Gruppe am Standort ist noch die alte: {cause}.',
+  'grouplist.notKept': 'Die Liste der Gruppe am Standort ist noch die bisherige ({cause}).',
   'grouplist.now': 'jetzt {date}, {start}',
   'grouplist.older': 'Dieser Standort speichert keine Gruppen: Sein Proxy ist noch auf einem älteren Stand.',
   'grouplist.perhapsNot': 'Die Stornierung von {title}, {date}, wurde vielleicht nicht ausgeführt; der Rest blieb unverändert.',
   'grouplist.request': '{day}, {hours}, {room}, {title}, Anfrage {id}',
   'grouplist.show': 'Anzeigen',
-  'grouplist.span': { one: '{count} Anfrage, {from} bis {to}.', other: '{count} Anfragen, {from} bis {to}.' },
-  'grouplist.spanGone': { one: '{count} Anfrage, {from} bis {to}; ab heute besteht keine mehr.', other: '{count} Anfragen, {from} bis {to}; ab heute besteht keine mehr.' },
+  'grouplist.span': { one: '{count} Anfrage am {from}.', other: '{count} Anfragen, {from} bis {to}.' },
+  'grouplist.spanGone': { one: '{count} Anfrage am {from}; ab heute besteht keine mehr.', other: '{count} Anfragen, {from} bis {to}; ab heute besteht keine mehr.' },
   'grouplist.stopped': { one: 'Angehalten: {count} besteht noch.', other: 'Angehalten: {count} bestehen noch.' },
-  'grouplist.sure': { one: 'Ab heute {count} Anfrage von „{title}“ stornieren? Das lässt sich nicht rückgängig machen.', other: 'Ab heute alle {count} Anfragen von „{title}“ stornieren? Das lässt sich nicht rückgängig machen.' },
+  'grouplist.sure': { one: 'Von „{title}“ {count} Anfrage ab dem heutigen Tag stornieren? Das lässt sich nicht rückgängig machen.', other: 'Von „{title}“ alle {count} Anfragen ab dem heutigen Tag stornieren? Das lässt sich nicht rückgängig machen.' },
   'grouplist.sureNo': 'Nicht stornieren',
   'grouplist.sureYes': 'Alle stornieren',
   'grouplist.withdrawn': { one: '{count} ohne Raum zurückgezogen', other: '{count} ohne Raum zurückgezogen' },
@@ -263,7 +263,7 @@ export default Object.freeze({
   // ---- importing
 
   'importing.before': 'schon früher angefragt, als Anfrage {id}',
-  'importing.big': 'Die Datei hat mehr als {size} MB.',
+  'importing.big': 'Die Datei hat mehr als {size} MB.',
   'importing.many': 'Die Datei hat mehr als {most} Buchungen: Teilen Sie sie auf.',
   'importing.noRoom': 'nennt keinen Raum',
   'importing.none': 'Die Datei enthält keine Buchung.',
@@ -293,16 +293,16 @@ export default Object.freeze({
   'index.equipment': 'Ausstattung',
   'index.errors': 'Anfragen, die keinen Raum fanden',
   'index.errorsHint': 'Auch Stornierungen, zu denen es keine Buchung gab, für den oben gewählten Raum. Was noch nicht endgültig ist, kann noch einen Raum bekommen, wenn es nicht zurückgezogen wird.',
-  'index.figures': 'Auslastung',
+  'index.figures': 'Auswertung',
   'index.file': 'Aus einer Datei',
-  'index.fileHint': 'Die erste Zeile einer CSV-Datei nennt die Spalten: Raum, Tag, Beginn, Ende oder Dauer, Titel und, falls vorhanden, ID. Die Datei bleibt in diesem Browser: Es wird gezeigt, was aus jeder Zeile würde, und nichts wird angefragt, bevor Sie es auslösen.',
+  'index.fileHint': 'Die erste Zeile einer CSV-Datei nennt die Spalten: Raum, Datum, Beginn, Ende oder Dauer, Titel und, falls vorhanden, id. Die Datei bleibt in diesem Browser: Es wird gezeigt, was aus jeder Zeile würde, und nichts wird angefragt, bevor Sie es auslösen.',
   'index.fileRoom': 'Raum für Einträge ohne bekannten Raum',
   'index.find': 'Freien Raum finden',
   'index.from': 'Von',
   'index.fromDay': 'Von',
   'index.groups': 'Gruppen',
   'index.inEach': 'Wie oft',
-  'index.legend': '{sure} bleibt, wenn nicht storniert wird. {open} kann sich noch verschieben, bis die Standorte sich abgeglichen haben. Wählen Sie eine Buchung, um sie zu sehen oder zu stornieren; wählen Sie eine freie Zeit, um sie anzufragen, und weitere desselben Raums als Alternativen. Mit den Pfeiltasten bewegen Sie sich im Plan.',
+  'index.legend': '{sure} bleibt bestehen, sofern nicht storniert wird. {open} kann sich noch verschieben, bis die Standorte sich abgeglichen haben. Wählen Sie eine Buchung, um sie zu sehen oder zu stornieren; wählen Sie eine freie Zeit, um sie anzufragen, und weitere desselben Raums als Alternativen. Mit den Pfeiltasten bewegen Sie sich im Plan.',
   'index.length': 'Dauer in Minuten',
   'index.list': 'Oder nur an diesen Tagen, etwa 2026-06-30 oder 30.6.2026',
   'index.look': 'Prüfen, was frei ist',
@@ -310,7 +310,7 @@ export default Object.freeze({
   'index.mailHint': 'Erhält eine E-Mail zu allem, was aus der Anfrage wird. Die Adresse ist hier danach für niemanden mehr lesbar.',
   'index.many': 'Mehrere auf einmal',
   'index.mine': 'Meine Anfragen',
-  'index.mineHint': 'Die Anfragen dieses Browsers. Eine Stornierung gibt den Raum für spätere Anfragen frei und lässt sich nicht zurücknehmen.',
+  'index.mineHint': 'Die Anfragen dieses Browsers. Eine Stornierung gibt den Raum für spätere Anfragen frei und lässt sich nicht rückgängig machen.',
   'index.month': 'Monat',
   'index.moves': 'Die Änderung einer Buchung wurde unterbrochen',
   'index.news': 'Was aus den Anfragen dieses Standorts wurde',
@@ -345,7 +345,7 @@ export default Object.freeze({
   'mail.given': 'Was aus Anfrage {id} wird, geht per E-Mail an diese Adresse.',
   'mail.notTaken': 'Die E-Mail-Adresse wurde für Anfrage {id} nicht angenommen ({cause}): Es gehen keine E-Mails dazu hinaus.',
   'mail.ofEach': 'Erhält zu jeder Anfrage eine E-Mail über alles, was aus ihr wird. Die Adresse ist hier danach für niemanden mehr lesbar.',
-  'mail.wrong': 'Das ist keine E-Mail-Adresse aus einfachen Buchstaben wie anna@example.org. Ohne E-Mails bleibt das Feld leer.',
+  'mail.wrong': 'Das ist keine E-Mail-Adresse aus einfachen Buchstaben wie anna@example.org. Lassen Sie das Feld leer, wenn Sie keine E-Mails möchten.',
 
   // ---- many
 
@@ -364,7 +364,7 @@ export default Object.freeze({
   'many.noStart': 'Eine Serie braucht einen Beginn.',
   'many.noTitle': 'Eine Serie braucht einen Titel.',
   'many.notKept': 'Die Gruppe ist am Standort nicht gespeichert ({cause}) und lässt sich noch nicht als Ganzes stornieren.',
-  'many.notWithdrawn': 'Die vorige Anfrage, {id}, ist nicht zurückgezogen und kann auch noch gebucht werden.',
+  'many.notWithdrawn': 'Die vorige Anfrage, {id}, ist nicht zurückgezogen und kann ebenfalls noch gebucht werden.',
   'many.otherWindow': 'Ein anderes Fenster dieses Browsers arbeitet gerade an einer solchen Liste.',
   'many.sure': { one: '{count} Anfrage der Liste wurde nicht gesendet. Die Liste trotzdem schließen?', other: '{count} Anfragen der Liste wurden nicht gesendet. Die Liste trotzdem schließen?' },
   'many.sureNo': 'Offen lassen',
@@ -379,7 +379,7 @@ export default Object.freeze({
   'met.neverFault': 'Noch kein Abgleich mit {name} ({fault}).',
   'met.silent': 'Der Dienst des Standorts hat noch nie etwas geschrieben.',
   'met.silentSince': 'Der Dienst des Standorts hat seit {moment} nichts geschrieben.',
-  'met.waiting': { 0: 'Alle Anfragen sind endgültig.', one: '{count} Anfrage ist noch nicht endgültig.', other: '{count} Anfragen sind noch nicht endgültig.' },
+  'met.waiting': { 0: 'Keine Anfrage wartet darauf, endgültig zu werden.', one: '{count} Anfrage ist noch nicht endgültig.', other: '{count} Anfragen sind noch nicht endgültig.' },
 
   // ---- mine
 
@@ -390,11 +390,11 @@ export default Object.freeze({
   'mine.dayLost': '{day}: {requests}, {without}',
   'mine.found': 'Inzwischen wurde ein Raum gefunden.',
   'mine.has': '{date}, {hours}.',
-  'mine.lost': 'War gebucht für den {slot}; das ging an eine frühere Anfrage verloren.',
+  'mine.lost': 'War für den {slot} gebucht und ging an eine frühere Anfrage verloren.',
   'mine.noReply': 'Es kam keine Antwort: Sehen Sie im Tagesplan nach. Die Anfrage wird nicht noch einmal gesendet.',
   'mine.none': 'Noch keine.',
   'mine.notKnownYet': 'Noch weiß niemand, ob das gebucht ist. Trotzdem von der Liste nehmen?',
-  'mine.onItsWay': 'Unterwegs',
+  'mine.onItsWay': 'Wird gesendet',
   'mine.staysBooked': 'Die Buchung besteht: Auch wenn sie nicht mehr auf dieser Liste steht, bleibt der Raum gebucht. Um ihn freizugeben, stornieren Sie die Buchung.',
   'mine.takeOff': 'Von der Liste nehmen',
   'mine.takeOffPast': { one: '{count} Anfrage vergangener Tage von der Liste nehmen', other: 'Alle {count} vergangener Tage von der Liste nehmen' },
@@ -406,7 +406,7 @@ export default Object.freeze({
   'month.hint': 'Wählen Sie einen Tag, um ihn zu sehen. Die Pfeiltasten führen von Tag zu Tag.',
   'month.more': { one: 'und {count} weitere', other: 'und {count} weitere' },
   'month.notKnown': 'der Raum ist hier nicht bekannt',
-  'month.notRead': 'noch nicht gelesen',
+  'month.notRead': 'noch nicht geladen',
   'month.title': '{room}, {month}',
 
   // ---- move
@@ -426,7 +426,7 @@ export default Object.freeze({
   'move.slot': '{room}, {hours}',
   'move.start': 'Beginn',
   'move.title': 'Titel',
-  'move.unread': 'Der Plan dieses Tages ist nicht lesbar: {cause}.',
+  'move.unread': 'Der Tagesplan ist nicht lesbar ({cause}).',
 
   // ---- movelist
 
@@ -435,21 +435,21 @@ export default Object.freeze({
   'movelist.both': 'Beide Buchungen bestehen: {from} (Anfrage {old}) und {to} (Anfrage {new}).',
   'movelist.cancelNew': 'Die neue stornieren',
   'movelist.cancelOld': 'Die alte stornieren',
-  'movelist.done': 'Es wurde ausgeführt: {to} ist gebucht, als Anfrage {id}, und die alte Buchung besteht nicht mehr.',
+  'movelist.done': 'Die Änderung wurde ausgeführt: {to} ist gebucht, als Anfrage {id}, und die alte Buchung besteht nicht mehr.',
   'movelist.fellBack': '{to} war belegt. Gebucht ist {slot}, als Anfrage {id}; die alte Buchung besteht nicht mehr.',
   'movelist.leaveBoth': 'Beide behalten',
   'movelist.neither': 'Keine der beiden Buchungen besteht: {from} wurde storniert oder hat den Raum verloren, und {to} ist nicht gebucht.',
   'movelist.neitherWaiting': 'Keine der beiden Buchungen besteht: {from} wurde storniert oder hat den Raum verloren, und {to} hat keinen Raum, kann aber noch einen bekommen.',
-  'movelist.notBooked': 'Nicht gebucht: {cause}.',
-  'movelist.notDone': 'Es wurde nicht ausgeführt: {from} besteht unverändert.',
-  'movelist.notDoneWaiting': 'Es wurde nicht ausgeführt: {from} besteht unverändert. Die Anfrage für {to} hat keinen Raum, kann aber noch einen bekommen.',
+  'movelist.notBooked': 'Nicht gebucht ({cause}).',
+  'movelist.notDone': 'Die Änderung wurde nicht ausgeführt: {from} besteht unverändert.',
+  'movelist.notDoneWaiting': 'Die Änderung wurde nicht ausgeführt: {from} besteht unverändert. Die Anfrage für {to} hat keinen Raum, kann aber noch einen bekommen.',
   'movelist.oldCancelled': 'Die alte Buchung ist storniert: {slot}.',
-  'movelist.perhaps': 'Vielleicht nicht ausgeführt: {cause}. Der Stand wird erneut geprüft.',
+  'movelist.perhaps': 'Vielleicht nicht ausgeführt ({cause}). Der Stand wird erneut geprüft.',
   'movelist.refused': 'Nicht gebucht: {refusal}',
   'movelist.renamed': '{slot}, {title}',
   'movelist.slot': '{room}, {day}, {hours}',
   'movelist.taken': 'Nicht gebucht: {slot} ist belegt.',
-  'movelist.takenBack': 'Die neue Anfrage {id} ist zurückgenommen; {slot} bleibt gebucht.',
+  'movelist.takenBack': 'Die neue Anfrage {id} ist zurückgenommen; {slot} ist weiterhin gebucht.',
   'movelist.unknown': 'Was davon besteht, ist noch nicht bekannt ({cause}). Es wird erneut geprüft.',
   'movelist.withdraw': 'Diese Anfrage zurückziehen',
 
@@ -463,14 +463,14 @@ export default Object.freeze({
   'moving.changed': 'Geändert: {title}, {slot}, Anfrage {id} anstelle von {old}; noch nicht endgültig.',
   'moving.fellBack': 'Nicht verschoben: {slot} war inzwischen belegt. Die Buchung hat wieder ihre alte Zeit, als Anfrage {id}.',
   'moving.gone': 'Nicht verschoben: Die Buchung war schon storniert oder hatte ihren Raum verloren. Es wurde nichts angefragt.',
-  'moving.inGroup': 'In ihrer Gruppe steht noch die alte Anfrage: {cause}.',
+  'moving.inGroup': 'In der Gruppe der Buchung steht noch die alte Anfrage ({cause}).',
   'moving.isTaken': '{hours} ist belegt: {title}.',
   'moving.later': 'Bis die Standorte sich abgeglichen haben, ist die neue Buchung nicht endgültig: Verliert sie dabei ihren Raum an eine frühere Anfrage, ist die alte trotzdem weg.',
   'moving.lost': 'Verloren: {why} Die alte Zeit, {slot}, wurde im selben Augenblick belegt. Fragen Sie eine andere an.',
   'moving.meanwhile': '{slot} war inzwischen belegt.',
   'moving.moved': 'Verschoben: {title}, {slot}, Anfrage {id} anstelle von {old}; noch nicht endgültig.',
   'moving.newFirst': 'Zuerst wird die neue Buchung angefragt; sobald sie gebucht ist, wird die alte storniert.',
-  'moving.notSent': 'Nicht verschoben: {cause}. Es wurde nichts gesendet; die Buchung besteht unverändert.',
+  'moving.notSent': 'Nicht verschoben ({cause}). Es wurde nichts gesendet; die Buchung besteht unverändert.',
   'moving.oldFirst': 'Die neue Zeit überschneidet sich mit der alten, daher wird die alte Buchung zuerst storniert: Einen Augenblick lang kann jemand anders ihre Zeit belegen.',
   'moving.otherWindow': 'Ein anderes Fenster dieses Browsers verschiebt sie gerade.',
   'moving.refused': 'Nicht verschoben: {refusal} Die Buchung besteht unverändert.',
@@ -490,7 +490,7 @@ export default Object.freeze({
   'news.lost': { one: '{count} Termin hat seinen Raum verloren', other: '{count} Termine haben ihren Raum verloren' },
   'news.moved': { one: '{count} Termin wurde verschoben', other: '{count} Termine wurden verschoben' },
   'news.movedToo': { one: '{count} wurde verschoben', other: '{count} wurden verschoben' },
-  'news.notMarked': 'Nicht als mitgeteilt vermerkt: {cause}. Sie können noch einmal drücken.',
+  'news.notMarked': 'Nicht als mitgeteilt vermerkt ({cause}). Sie können es noch einmal versuchen.',
 
   // ---- newslist
 
@@ -499,7 +499,7 @@ export default Object.freeze({
   'newslist.day': '{day}: {changes}',
   'newslist.found': 'Raum gefunden',
   'newslist.hadCancelled': 'War gebucht für {slot} und wurde von einem anderen Standort storniert (Anfrage {id}).',
-  'newslist.hadLost': 'War gebucht für {slot}; das ging an eine frühere Anfrage verloren.',
+  'newslist.hadLost': 'War gebucht für {slot} und ging an eine frühere Anfrage verloren.',
   'newslist.hasRoom': 'Hat inzwischen einen Raum: {slot}.',
   'newslist.hide': 'Liste ausblenden',
   'newslist.lost': 'Raum verloren',
@@ -522,7 +522,7 @@ export default Object.freeze({
 
   'offers.freeIn': 'Frei in {room}:',
   'offers.none': 'Am {day}, ist in keinem Raum etwas von dieser Dauer frei.',
-  'offers.notWithdrawn': 'Die vorige Anfrage, {id}, ist nicht zurückgezogen und kann auch noch gebucht werden. Drücken Sie bei ihr, unter „Meine Anfragen“, auf „Zurückziehen“.',
+  'offers.notWithdrawn': 'Die vorige Anfrage, {id}, ist nicht zurückgezogen und kann ebenfalls noch gebucht werden. Drücken Sie bei ihr, unter „Meine Anfragen“, auf „Zurückziehen“.',
   'offers.reallyWithdraw': 'Anfrage {id} ({title}, {room}) hat keinen Raum und kann noch einen bekommen. Soll sie zurückgezogen werden, da jetzt eine andere gebucht ist?',
   'offers.withdraw': 'Zurückziehen',
 
@@ -551,7 +551,7 @@ export default Object.freeze({
   'plan.noDay': '„{day}“ ist kein Tag von 1990 bis 2099',
   'plan.noPlainLetter': 'der Titel hat keinen lateinischen Buchstaben',
   'plan.noTitle': 'hat keinen Titel',
-  'plan.ofList': '{title} aus dieser Liste',
+  'plan.ofList': '{title} (in dieser Liste)',
   'plan.past': 'Vergangen',
   'plan.refused': 'Abgelehnt',
   'plan.request': 'Anfrage {id}',
@@ -578,11 +578,11 @@ export default Object.freeze({
   'print.asOf': '{office}, Stand: {day} {time}',
   'print.code': 'Die Seite dieses Tages',
   'print.none': 'Keine Buchungen.',
-  'print.notRead': 'Es wurde kein Tagesplan gelesen.',
+  'print.notRead': 'Es wurde kein Tagesplan geladen.',
 
   // ---- readcsv
 
-  'readcsv.cells': 'hat {cells} Zellen, die erste Zeile aber {columns}',
+  'readcsv.cells': 'hat {cells} Zellen, die erste Zeile aber nur {columns}',
   'readcsv.head': 'Die erste Zeile muss die Spalten nennen: Raum, Datum, Beginn, Ende oder Dauer, Titel und, falls vorhanden, id.',
   'readcsv.noDay': '„{text}“ ist kein Tag wie 2026-06-30 oder 30.6.2026',
   'readcsv.open': 'die Anführungszeichen sind nicht geschlossen, und alles Weitere steht in ihnen',
@@ -618,19 +618,19 @@ export default Object.freeze({
   'run.noMails': 'die E-Mail-Adresse wurde dafür nicht angenommen ({cause}), es gehen keine E-Mails dazu hinaus',
   'run.noReply': 'Es ist unklar, ob die Anfrage für {item} angekommen ist ({cause}); im Tagesplan steht sie jetzt nicht. Sehen Sie dort nach, bevor Sie weitermachen.',
   'run.notAsked': 'wurde nicht angefragt',
-  'run.notSent': 'Für {item} wurde nichts gesendet: {cause}.',
+  'run.notSent': 'Für {item} wurde nichts gesendet ({cause}).',
 
   // ---- search
 
   'search.days': { one: '{count} Tag', other: '{count} Tagen' },
   'search.found': { 0: 'Nichts gefunden.', one: '{count} Treffer.', other: '{count} Treffer.' },
   'search.foundMore': { one: '{count} Treffer; die ersten {shown} werden gezeigt.', other: '{count} Treffer; die ersten {shown} werden gezeigt.' },
-  'search.hint': { 0: 'Durchsucht, was dieser Browser gelesen hat: noch keinen Tagesplan. Ein Monat oder die kommenden Buchungen eines Raums, einmal angezeigt, kommen dazu.', one: 'Durchsucht, was dieser Browser gelesen hat: {count} Tagesplan von {days}, {from} bis {to}. Ein Monat oder die kommenden Buchungen eines Raums, einmal angezeigt, kommen dazu.', other: 'Durchsucht, was dieser Browser gelesen hat: {count} Tagespläne von {days}, {from} bis {to}. Ein Monat oder die kommenden Buchungen eines Raums, einmal angezeigt, kommen dazu.' },
+  'search.hint': { 0: 'Durchsucht, was dieser Browser geladen hat: noch keinen Tagesplan. Ein Monat oder die kommenden Buchungen eines Raums, einmal angezeigt, kommen dazu.', one: 'Durchsucht, was dieser Browser geladen hat: {count} Tagesplan von {days}, {from} bis {to}. Ein Monat oder die kommenden Buchungen eines Raums, einmal angezeigt, kommen dazu.', other: 'Durchsucht, was dieser Browser geladen hat: {count} Tagespläne von {days}, {from} bis {to}. Ein Monat oder die kommenden Buchungen eines Raums, einmal angezeigt, kommen dazu.' },
   'search.showOf': 'Tag anzeigen: {title}, {where}',
 
   // ---- sending
 
-  'sending.refused': '{cause}.',
+  'sending.refused': 'Abgelehnt ({cause}).',
 
   // ---- series
 
@@ -671,7 +671,7 @@ export default Object.freeze({
   'wish.held': { 0: 'Ihr Wunsch ist {room}, {slot}.', one: 'Ihr Wunsch ist {room}, {slot}, mit {count} Alternative.', other: 'Ihr Wunsch ist {room}, {slot}, mit {count} Alternativen.' },
   'wish.letters': '{number} von {most} Zeichen',
   'wish.oneRoom': 'Eine Anfrage gilt für einen Raum. Stattdessen {room}, {slot} anfragen?',
-  'wish.reallyAgain': 'Was eingetragen ist, geht verloren. {title} erneut anfragen?',
+  'wish.reallyAgain': 'Was eingetragen ist, geht verloren. „{title}“ erneut anfragen?',
   'wish.takeBack': 'Entfernen',
   'wish.takeBackSlot': '{slot} entfernen',
   'wish.when': '{day}, {hours}',
