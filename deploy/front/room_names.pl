@@ -1,5 +1,5 @@
-# The rooms that a database knows: a reader of SQLite's files for the one table `room`, since no command of the program lists them. It reads
-# the database file and the whole transactions of its log, and writes nothing. Read by store.pl; as a program of its own it prints the names:
+# The rooms that a database knows: a reader of SQLite's files for the one table `room`, since no command of the program lists them; and whether there
+# is a table at all. It reads the database file and the whole transactions of its log, and writes nothing. Read by store.pl; as a program of its own it prints the names:
 #
 #     perl room_names.pl DATABASE
 #
@@ -79,7 +79,8 @@ sub rows_of {
     return @rows;
 }
 
-sub room_names_once {
+# What gives the pages of a database by number, of the file and its log; nothing where it is none.
+sub pages_of {
     my ($path) = @_;
     my ($data, $log) = (read_file($path), read_file("$path-wal"));
     my $size = 0;
@@ -88,11 +89,20 @@ sub room_names_once {
     return unless $size;
     $size = 65536 if $size == 1;
     my $logged = logged_pages($log, $size);
-    my $page_of = sub {
+    return sub {
         my ($number) = @_;
         my $page = $logged->{$number} // substr $data, ($number - 1) * $size, $size;
         return length $page == $size ? $page : "\0" x $size;
     };
+}
+
+sub has_no_table {
+    my $page_of = pages_of(@_) or return;
+    return !rows_of($page_of, 1, 0);
+}
+
+sub room_names_once {
+    my $page_of = pages_of(@_) or return;
     my ($table) = grep { ($_->[0] // '') eq 'table' and ($_->[1] // '') eq 'room' } rows_of($page_of, 1, 0);
     return unless $table;
     return map { $_->[0] } rows_of($page_of, $table->[3], 0);

@@ -200,6 +200,8 @@ sub no_replica {
             return "$path is there already, and is that of office $server with primary $primary: give this one another name" if defined $server;
         }
         next if ask('position', $path) =~ /^mp2 /;
+        # a command that is refused for an empty file leaves a database without tables in it
+        return "$path has no tables yet: `rooms init $path SERVER PRIMARY` makes them" if has_no_table($path);
         return "$path has other tables than those of rooms: it is another program's, or of a newer rooms";
     }
     return;

@@ -692,6 +692,9 @@ deploy_package() {
     is 'the front of the package helps' "$("$folder/tree/usr/bin/rooms" help 2>&1 | wc -l)" "$("$deploy/front/rooms" help 2>&1 | wc -l)"
     is 'rooms-import of the package helps' "$("$folder/tree/usr/bin/rooms-import" --help 2>&1 | grep -c 'a dry run')" 1
     is 'the documents for the operator' "$(cd "$folder/tree/usr/share/doc/rooms" && ls docs | tr '\n' ' ')" 'FORMATS.md OPERATING.md TROUBLE.md '
+    is 'links that lead nowhere' "$(cd "$folder/tree/usr/share/doc/rooms" && grep -oHE '\]\([^)#]+' README.md */*.md | while IFS= read -r it; do
+        case ${it#*](} in http*) ;; *) [ -e "$(dirname -- "${it%%:*}")/${it#*](}" ] || echo "$it" ;; esac
+    done)" ''
     is 'it needs the C library alone' "$(dpkg-deb -f "$file" Depends | sed 's/ ([^)]*)//g')" 'libc6, passwd'
     if ! missing 'lintian of the package' lintian; then
         held 'lintian finds no error and no warning' lintian --allow-root --fail-on error,warning "$file"

@@ -210,6 +210,8 @@ WORDS = [
     ('init . 1 1', 1, '. is a folder'),
     (f'sheet text oak {DAY}', 1, 'text is no database'),
     (f'sheet empty oak {DAY}', 1, 'empty is empty'),
+    ('add-room empty oak', 1, 'empty has no tables yet: `rooms init empty SERVER PRIMARY` makes them'),
+    (f'sheet other oak {DAY}', 1, 'other has other tables than those of rooms'),
     (f'sheet f.db oak {DAY}', 1, 'there is no f.db: did you mean d.db?'),
     ('bridge d.db d.db', 1, 'the same file'),
     ('export d.db text batch 10', 1, "begins with 'something else'"),
@@ -230,6 +232,8 @@ def words(t):
     with open(t.path('text'), 'w', encoding='ascii') as it:
         it.write('something else\n')
     open(t.path('empty'), 'w', encoding='ascii').close()
+    with contextlib.closing(sqlite3.connect(t.path('other'))) as it:
+        it.execute('CREATE TABLE other (it TEXT)')
     with open(t.path('position'), 'w', encoding='ascii') as it:
         it.write('mp2 9 1\nK 0\nE\n')
     for line, status, part in WORDS:

@@ -1,5 +1,5 @@
 #!/usr/bin/env python3
-"""The commands of docs/OPERATING.md, typed in in order in a folder of their own, print what stands below them.
+"""The commands of docs/OPERATING.md, and those of the manual (deploy/package/rooms.1), each typed in in order in a folder, print what stands below them.
 
     documents.py ROOMS FOLDER
 
@@ -42,6 +42,18 @@ def pairs(text):
     return found
 
 
+def manual(text):
+    """The commands of a manual's examples, and the lines below each; what serves prints on is left out."""
+    found = []
+    for block in re.findall(r'^\.EX\n(.*?)^\.EE', text, re.M | re.S):
+        for line in block.replace('\\(aq', "'").splitlines():
+            if line.startswith('$ '):
+                found.append(([re.sub('^rooms ', './rooms ', line[2:])], []))
+            elif not found[-1][0][0].startswith('./rooms serve '):
+                found[-1][1].append(line)
+    return found
+
+
 def free_port():
     with socket.socket() as it:
         it.bind(('127.0.0.1', 0))
@@ -67,6 +79,10 @@ class Typing:
         words = ['./rooms', 'serve', database, self.ports[port], words[4]]
         self.serving[database] = subprocess.Popen(words, cwd=self.folder, stdin=subprocess.DEVNULL, stdout=subprocess.PIPE)
         self.count(f'{words}', self.serving[database].stdout.readline().decode(), f'serving 127.0.0.1:{self.ports[port]}\n')
+
+    def end_all(self):
+        for database in list(self.serving):
+            self.end(database)
 
     def end(self, database):
         if database in self.serving:
@@ -100,16 +116,20 @@ def main(words):
     if len(words) != 2:
         print(__doc__, file=sys.stderr)
         return 2
-    typing = Typing(*words)
-    with open(os.path.join(ROOT, 'docs/OPERATING.md'), encoding='utf-8') as it:
-        found = pairs(it.read())
-    typing.count('docs/OPERATING.md has commands', len(found) >= 10, True)
-    for commands, wanted in found:
-        typing.block(commands, wanted)
-    for database in list(typing.serving):
-        typing.end(database)
-    print(f'{typing.passed} passed, {typing.failed} failed')
-    return 1 if typing.failed else 0
+    passed, failed = 0, 0
+    for document, least, read in (('docs/OPERATING.md', 10, pairs), ('deploy/package/rooms.1', 15, manual)):
+        folder = os.path.join(words[1], os.path.basename(document))
+        os.mkdir(folder)
+        typing = Typing(words[0], folder)
+        with open(os.path.join(ROOT, document), encoding='utf-8') as it:
+            found = read(it.read())
+        typing.count(f'{document} has commands', len(found) >= least, True)
+        for commands, wanted in found:
+            typing.block(commands, wanted)
+        typing.end_all()
+        passed, failed = passed + typing.passed, failed + typing.failed
+    print(f'{passed} passed, {failed} failed')
+    return 1 if failed else 0
 
 
 if __name__ == '__main__':

@@ -1,4 +1,4 @@
-# The commands of README.md from 'Two offices' to 'Over HTTP', typed in in order in a folder of their own: each prints what stands behind `#`
+# The commands of README.md up to 'What is proved', typed in in order in a folder of their own: each prints what stands behind `#`
 # beside it and below it; and those of docs/OPERATING.md (tests/documents/documents.py); what
 # documents link to, name and count is there (tests/documents/counted.py). tests/part sources this file; the functions of tests/lib.sh and tests/http/http.sh and the variables of tests/part are used here.
 
@@ -10,8 +10,8 @@ typed() {
             read -r -a out <<< "$command"
             serve "$folder/${out[2]}" "${out[4]}"
             return ;;
-        './rooms init '* | './rooms add-room '*)
-            wanted=${wanted:-ok} ;;
+        './rooms init '*' && ./rooms add-room '*)
+            wanted=${wanted:-$'ok\nok'} ;;
         curl\ *)
             command="curl -sS -m 30 ${command#curl }" ;;
     esac
@@ -42,7 +42,7 @@ run_readme() {
         if [[ $line =~ ^(.*[^\ ])\ +#\ (.*)$ ]]; then
             command=${BASH_REMATCH[1]} wanted=${BASH_REMATCH[2]}
         fi
-    done < <(sed -n '/^## Two offices/,/^## What is proved/ s/^    //p' README.md; echo true)
+    done < <(sed -n '1,/^## What is proved/ s/^    //p' README.md; echo true)
     if [ "$count" -lt 15 ] || [ "$(wc -l < README.md)" -gt 140 ]; then
         echo "FAILED: README.md has $count commands and $(wc -l < README.md) lines"
         failed=$((failed + 1))
