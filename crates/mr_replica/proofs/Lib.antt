@@ -1,7 +1,6 @@
 pub mod ByKeys
 pub mod CalendarOrder
 pub mod Dues
-pub mod Gaps
 pub mod Journals
 pub mod LateRows
 pub mod Limits

@@ -25,6 +25,7 @@ use Rattle.mr_replica.specs.Picked.{is_day_asked, booking_before}
 use Rattle.mr_replica.specs.RowKeys.{key_cmp, key_before, key_at, booking_key, end_key, is_between, AreBetween}
 use Rattle.mr_replica.proofs.ByKeys.{tied, tied_names, picked}
 use Rattle.mr_replica.proofs.CalendarOrder.{booking_total, booking_cmp-before}
+use Rattle.mr_replica.proofs.LogEnds.{less_from}
 use Rattle.mr_replica.proofs.SameMembers.{sorted_by}
 
 tied_days : (day : Date) (o : Ordering) → ordering_then (nat_cmp day.year day.year) (ordering_then (nat_cmp day.month day.month) (ordering_then (nat_cmp day.day day.day) o)) ≡ o
@@ -66,11 +67,6 @@ module _ (room : Text) (day : Option Date) where
   joined Equal Equal Less o = refl
   joined Equal Equal Greater o = refl
   joined Equal Equal Equal o = refl
-
-  less_from : (o : Ordering) → is_lt o ≡ true → o ≡ Less
-  less_from Less e = refl
-  less_from Equal e = let never : ⊥ = cc in absurd never
-  less_from Greater e = let never : ⊥ = cc in absurd never
 
   calm : (a b : BookingRow) → a.room ≡ room → b.room ≡ room → key_before (booking_key a) (booking_key b) ≡ true → booking_before b a ≡ false
   calm a b p q less =

@@ -137,7 +137,7 @@ up_to_between number row = go (is_tentative row) refl
 
 -- ---- in the order of ids
 
-less_from : (o : Ordering) → is_lt o ≡ true → o ≡ Less
+pub less_from : (o : Ordering) → is_lt o ≡ true → o ≡ Less
 less_from Less e = refl
 less_from Equal e = let never : ⊥ = cc in absurd never
 less_from Greater e = let never : ⊥ = cc in absurd never

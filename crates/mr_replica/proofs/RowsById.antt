@@ -19,7 +19,7 @@ use Rattle.mr_replay.specs.Holds.{AreDistinct}
 use Rattle.mr_replay.proofs.IdKeys.{exact_ids, ids_total, at_is, same_id_equivalence}
 use Rattle.mr_tables.specs.Change.{id_before, put, rows_without}
 use Rattle.mr_tables.specs.TableOrders.{InOrder, id_order}
-use Rattle.mr_tables.proofs.Putting.{put_in_order}
+use Rattle.mr_tables.proofs.Putting.{one_a_key, put_in_order}
 use Rattle.mr_replica.specs.Keyed.{IsKeyed, if_passes}
 
 -- it holds whatever the result
@@ -61,11 +61,7 @@ not_behind i j p = not_before j i (ap is_lt (ids_total.antisymm j i ∙ ap order
 module _ {R : Type 0} (id : R → Id) where
   -- of two rows with one id both are the same
   pub one_row : (rows : List R) → InOrder id_before id rows → (x y : R) → Has x rows → Has y rows → id x ≡ id y → x ≡ y
-  one_row [] s x y h g e = absurd h
-  one_row (z ∷ rows) s x y (inl a) (inl b) e = a ∙ sym b
-  one_row (z ∷ rows) s x y (inl a) (inr g) e = absurd (id_order.irreflexive (id z) (subst (λ i. id_before (id z) i ≡ true) (sym e ∙ ap id a) (all_has (λ u. id_before (id z) (id u) ≡ true) y rows s.0 g)))
-  one_row (z ∷ rows) s x y (inr h) (inl b) e = absurd (id_order.irreflexive (id z) (subst (λ i. id_before (id z) i ≡ true) (e ∙ ap id b) (all_has (λ u. id_before (id z) (id u) ≡ true) x rows s.0 h)))
-  one_row (z ∷ rows) s x y (inr h) (inr g) e = one_row rows s.1 x y h g e
+  one_row rows s x y h g e = one_a_key id_before id id_order rows s x y h g e
 
   pub distinct_ids : (rows : List R) → InOrder id_before id rows → AreDistinct (map id rows)
   distinct_ids [] s = tt
@@ -121,7 +117,7 @@ module _ {R : Type 0} (id : R → Id) where
       go true is ih = one is (q x)
       go false other ih = ih
 
-  any_found : (p : R → Bool) (rows : List R) → list_any p rows ≡ is_some (find p rows)
+  pub any_found : (p : R → Bool) (rows : List R) → list_any p rows ≡ is_some (find p rows)
   any_found p [] = refl
   any_found p (x ∷ rows) = go (p x) (any_found p rows)
     where

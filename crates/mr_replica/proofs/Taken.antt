@@ -66,6 +66,7 @@ pub told_on : {T : Type 0} (P : T → Type 0) (made : T → Type 0) (answer resu
 told_on P made answer (Ok x) is told = subst (λ r. IfOk r P) is.0 told
 told_on P made answer (Err e) is told = tt
 
--- a part that can't be made for want of memory is no failure of the store
-pub never_unmade : (e : Refusal) → e ≡ OutOfMemory → ¬ (e ≡ Store)
-never_unmade e out bad = absurd (cc (sym out ∙ bad))
+-- what is refused for want of memory alone is no failure of the store
+pub never_unmade : {T : Type 0} (r : Result T Refusal) → IfErr r (λ e. e ≡ OutOfMemory) → IfErr r (λ e. ¬ (e ≡ Store))
+never_unmade (Ok x) out = tt
+never_unmade (Err e) out = λ bad. absurd (cc (sym out ∙ bad))

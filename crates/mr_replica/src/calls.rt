@@ -8,6 +8,7 @@ ghost use Rattle.mr_model.specs.Step.{leave, add_room, commit, truncate, receive
 ghost use Rattle.mr_part.specs.Answering.{NeverStore, put_outcome, put_cancel_outcome};
 ghost use Rattle.mr_part.specs.Steps.{submit_request, outcome_in, cancel_request, outcome_at_room};
 ghost use Rattle.mr_replica.specs.Desk.{DeskTakesStep, StandsFor};
+ghost use Rattle.mr_replica.specs.Dues.{has_booking, own_count};
 ghost use Rattle.mr_tables.specs.Change.{changed};
 
 use crate::Desk;
@@ -47,12 +48,18 @@ impl Desk {
         ensures err { OnErr result (self.new ≡ self.old) }
         // A refusal that is due is returned without memory.
         ensures due_room { list_any (bytes_eq request.room) self.old.room ≡ false → result ≡ Err Refusal.UnknownRoom }
+        ensures due_clock { list_any (bytes_eq request.room) self.old.room ≡ true → 999_999_999_999 ≤ self.old.meta.clock → result ≡ Err Refusal.ClockExhausted }
+        ensures due_count { list_any (bytes_eq request.room) self.old.room ≡ true → self.old.meta.clock < 999_999_999_999 → 999_999_999 ≤ own_count self.old
+            → result ≡ Err Refusal.CountExhausted }
         ensures own { (a : Replica) → StandsFor self.old a → NeverStore result }
     {
         // For the prover alone: a scope may hold items.
         let _none: Option<&Item> = None;
         if !self.memory.knows(&request.room) {
             return Err(Refusal::UnknownRoom);
+        }
+        if let Some(refusal) = self.memory.exhausted() {
+            return Err(refusal);
         }
         match self.part(&Scope::InRoom(&request.room)) {
             Ok(part) => self.changed_by(part.submit(request)),
@@ -71,6 +78,11 @@ impl Desk {
         ensures err { OnErr result (self.new ≡ self.old) }
         // A refusal that is due is returned without memory.
         ensures due_room { list_any (bytes_eq room) self.old.room ≡ false → result ≡ Err Refusal.UnknownRoom }
+        ensures due_target { list_any (bytes_eq room) self.old.room ≡ true → has_booking room target self.old ≡ false → result ≡ Err Refusal.NoSuchRequest }
+        ensures due_clock { list_any (bytes_eq room) self.old.room ≡ true → has_booking room target self.old ≡ true → 999_999_999_999 ≤ self.old.meta.clock
+            → result ≡ Err Refusal.ClockExhausted }
+        ensures due_count { list_any (bytes_eq room) self.old.room ≡ true → has_booking room target self.old ≡ true → self.old.meta.clock < 999_999_999_999
+            → 999_999_999 ≤ own_count self.old → result ≡ Err Refusal.CountExhausted }
         ensures own { (a : Replica) → StandsFor self.old a → NeverStore result }
     {
         // For the prover alone: these are a room's name and an id, and a scope may hold items.
@@ -79,6 +91,12 @@ impl Desk {
         let _none: Option<&Item> = None;
         if !self.memory.knows(&room) {
             return Err(Refusal::UnknownRoom);
+        }
+        if !self.memory.has_booking(&room, target) {
+            return Err(Refusal::NoSuchRequest);
+        }
+        if let Some(refusal) = self.memory.exhausted() {
+            return Err(refusal);
         }
         match self.part(&Scope::OfTarget(target)) {
             Ok(part) => self.changed_by(part.cancel(room, target)),

@@ -45,6 +45,7 @@ impl Desk {
     pub(crate) fn part(&self, scope: &Scope<'_>) -> Result<Part, Refusal>
         ensures part { (a : Replica) → StandsFor self.now a → IfOk result (λ part. IsPartOf part (scope_of scope.now) a) }
         ensures only { (a : Replica) → StandsFor self.now a → IfErr result (λ e. e ≡ Refusal.OutOfMemory) }
+        ensures own { (a : Replica) → StandsFor self.now a → NeverStore result }
         ensures within { IfOk result (λ part. IsWithin part.summary) }
     {
         self.memory.part_for(scope)

@@ -1,21 +1,21 @@
-ghost use Rattle.std.specs.Prelude.{◌≡◌, ◌⊎◌, ◌↔◌, ◌≤◌, true, false, IsTrue, Err, IfOk, IfErr};
-ghost use Rattle.std.specs.List.{All};
+ghost use Rattle.std.specs.Prelude.{◌≡◌, ◌⊎◌, ◌↔◌, true, false, IsTrue, Err, IfOk, IfErr};
 ghost use Rattle.mr_agree.specs.Agreeing.{agree};
 ghost use Rattle.mr_audit.specs.Parts.{do_parts_agree};
 ghost use Rattle.mr_model.specs.Changes.{AreInKeyOrder};
 ghost use Rattle.mr_model.specs.Replica.{Replica, IsReplica};
 ghost use Rattle.mr_model.specs.Tables.{tables_of};
 ghost use Rattle.mr_replica.specs.Desk.{StandsFor, IsWithinLimits};
-ghost use Rattle.mr_replica.specs.Ordered.{AreInOrder};
 
+use crate::order::are_in_order;
 use crate::{Desk, Memory};
 use mr_audit::do_tables_agree;
-use mr_base::Refusal;
+use mr_base::{GREATEST_COMMIT, GREATEST_COUNT, Refusal};
 use mr_part::kept_rows::{kept_rows, of_store};
+use mr_tables::Tables;
 use mr_tables::boards::board_with;
 use mr_tables::table_row::copies_of;
-use mr_tables::{Tables, VectorRow};
-use std::alloc::Global;
+use std::alloc::{AllocError, Global};
+use std::rc::Rc;
 
 impl Desk {
     /// The desk that has these tables. Tables that stand for no replica are not believed: rows that break their limits, or
@@ -49,48 +49,29 @@ fn copy_of_agreeing(alloc: Global, tables: &Tables) -> Result<Memory, Refusal>
         return Err(Refusal::Store);
     }
     match do_tables_agree(alloc, tables) {
-        Ok(agree) => {
-            if agree {
-                copy_of_read(alloc, tables)
-            } else {
-                Err(Refusal::Store)
-            }
-        }
+        Ok(true) => copy_of_read(alloc, tables),
+        Ok(false) => Err(Refusal::Store),
         Err(refusal) => Err(refusal),
     }
 }
 
-/// Equal tables, if each row can be read.
+/// Equal tables with their board, if each row can be read and each table is in the order of its keys.
 fn copy_of_read(alloc: Global, tables: &Tables) -> Result<Memory, Refusal>
     ensures copy { IfOk result (λ copy. copy ≡ tables.now) }
     ensures only { (a : Replica) → IsReplica a → tables.now ≡ tables_of a → IfErr result (λ e. e ≡ Refusal.OutOfMemory) }
 {
-    match are_read(alloc, tables) {
-        Ok(()) => copy_of(alloc, tables),
-        Err(refusal) => Err(refusal),
+    if !are_in_order(tables) {
+        return Err(Refusal::Store);
     }
-}
-
-/// Reads each row, of which one that is out of its limits is refused.
-fn are_read(alloc: Global, tables: &Tables) -> Result<(), Refusal>
-    ensures only { (a : Replica) → IsReplica a → tables.now ≡ tables_of a → IfErr result (λ e. e ≡ Refusal.OutOfMemory) }
-{
-    board_with(alloc, tables)?;
-    are_logs_read(alloc, tables)
-}
-
-fn are_logs_read(alloc: Global, tables: &Tables) -> Result<(), Refusal>
-    ensures only { (a : Replica) → IsReplica a → tables.now ≡ tables_of a → IfErr result (λ e. e ≡ Refusal.OutOfMemory) }
-{
     kept_rows(alloc, &tables.log)?;
-    Ok(())
+    let board = Rc::new(alloc, board_with(alloc, tables)?)?;
+    Ok(Memory::of(alloc, copy_of(alloc, tables)?, Some(board))?)
 }
 
-fn copy_of(alloc: Global, tables: &Tables) -> Result<Memory, Refusal>
-    ensures copy { IfOk result (λ copy. copy ≡ tables.now) }
-    ensures only { AreInOrder tables.now → IfErr result (λ e. e ≡ Refusal.OutOfMemory) }
+fn copy_of(alloc: Global, tables: &Tables) -> Result<Tables, AllocError>
+    ensures { IfOk result (λ copy. copy ≡ tables.now) }
 {
-    let tables = Tables {
+    Ok(Tables {
         meta: tables.meta,
         room: copies_of(alloc, &tables.room)?,
         vector: copies_of(alloc, &tables.vector)?,
@@ -99,20 +80,13 @@ fn copy_of(alloc: Global, tables: &Tables) -> Result<Memory, Refusal>
         errorlog: copies_of(alloc, &tables.errorlog)?,
         cancelled: copies_of(alloc, &tables.cancelled)?,
         cancels: copies_of(alloc, &tables.cancels)?,
-    };
-    Memory::over(alloc, tables)
+    })
 }
 
 /// Whether the numbers in the rows are within the limits of positions.
 fn is_within(tables: &Tables) -> bool
     ensures { IsTrue result ↔ IsWithinLimits tables.now }
 {
-    let meta = tables.meta;
-    meta.commits <= 999_999_999_999 && are_within(&tables.vector)
-}
-
-fn are_within(rows: &[VectorRow]) -> bool
-    ensures { IsTrue result ↔ All (λ row. row.count ≤ 999_999_999) rows.now }
-{
-    rows.iter().all(|row| row.count <= 999_999_999)
+    let commits = tables.meta.commits <= GREATEST_COMMIT;
+    commits && tables.vector.iter().all(|row| row.count <= GREATEST_COUNT)
 }

@@ -148,13 +148,13 @@ impl<R: KeyedRow> Indexed<R> {
         Ok(rows)
     }
 
-    /// A copy of the row of this write, if it is of that room.
-    pub(crate) fn row_in(&self, id: WriteId, room: &RoomName) -> Result<Option<R>, AllocError>
-        ensures { IfOk result (λ found. found ≡ find (λ r. same_id (R.id r) id && bytes_eq (R.room r) room.now) self.now.rows) }
+    /// The row of this write, if it is of that room.
+    pub(crate) fn get_in(&self, id: WriteId, room: &RoomName) -> Option<&R>
+        ensures { option_copied result ≡ find (λ r. same_id (R.id r) id && bytes_eq (R.room r) room.now) self.now.rows }
     {
         match self.get(id) {
-            Some(row) if row.is_in(room) => Ok(Some(row.copied(self.alloc)?)),
-            _ => Ok(None),
+            Some(row) if row.is_in(room) => Some(row),
+            _ => None,
         }
     }
 

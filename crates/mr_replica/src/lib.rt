@@ -7,6 +7,7 @@ mod desk;
 mod from_tables;
 mod indexed;
 mod journal;
+mod known;
 mod memory;
 mod order;
 mod puts;

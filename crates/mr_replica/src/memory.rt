@@ -21,7 +21,7 @@ ghost use Rattle.mr_replica.specs.Writes.{tables_with};
 
 use crate::indexed::Indexed;
 use crate::order::are_in_order;
-use crate::puts::{prepare, put_rows};
+use crate::puts::{put_rows, with_rows};
 use crate::shared_board::{board_after, is_of_rooms, shared_board};
 use crate::writes::Writes;
 use crate::{Answer, Desk, Question};
@@ -29,8 +29,7 @@ use mr_base::{Refusal, RoomName, ServerId, WriteId};
 use mr_part::{Part, Scope};
 use mr_replay::Board;
 use mr_tables::board_changes::BoardTables;
-use mr_tables::rooms::is_known;
-use mr_tables::table_row::copies_of;
+use mr_tables::table_row::{TableRow, copies_of};
 use mr_tables::{
     BookingRow, CancelRow, CancelledRow, Change, ErrorRow, MetaRow, PlaceRow, Tables, VectorRow,
 };
@@ -42,10 +41,10 @@ use std::rc::Rc;
 #[derive(Drop)]
 pub struct Memory {
     alloc: Global,
-    meta: MetaRow,
-    room: Vec<RoomName>,
-    vector: Vec<VectorRow>,
-    writes: Writes,
+    pub(crate) meta: MetaRow,
+    pub(crate) room: Vec<RoomName>,
+    pub(crate) vector: Vec<VectorRow>,
+    pub(crate) writes: Writes,
     /// The board that the tables tell, if it is there. Parts that go by rooms share it.
     board: Option<Rc<Board>>,
 }
@@ -71,7 +70,11 @@ impl Memory {
         Ok(Memory::of(alloc, tables, board)?)
     }
 
-    fn of(alloc: Global, tables: Tables, board: Option<Rc<Board>>) -> Result<Memory, AllocError>
+    pub(crate) fn of(
+        alloc: Global,
+        tables: Tables,
+        board: Option<Rc<Board>>,
+    ) -> Result<Memory, AllocError>
         requires order { AreInOrder tables }
         requires board { IfSome board (λ board. board.value ≡ board_of tables) }
         ensures { IfOk result (λ memory. memory ≡ tables) }
@@ -129,28 +132,14 @@ impl Memory {
         }
     }
 
-    /// The numbers.
-    pub(crate) fn meta(&self) -> MetaRow
-        ensures { result ≡ self.now.meta }
-    {
-        self.meta
-    }
-
-    /// Whether the room is known.
-    pub(crate) fn knows(&self, room: &RoomName) -> bool
-        ensures { result ≡ list_any (bytes_eq room.now) self.now.room }
-    {
-        is_known(&self.room, room)
-    }
-
     /// Makes the whole change, or nothing.
     pub fn apply(&mut self, change: &Change) -> Result<(), AllocError>
         ensures changed { OnOk result (self.new ≡ changed change.now self.old) }
         ensures refused { OnErr result (self.new ≡ self.old) }
     {
         let alloc = self.alloc;
-        let room = prepare(alloc, &mut self.room, &change.room)?;
-        let vector = prepare(alloc, &mut self.vector, &change.vector)?;
+        let room = with_rows(alloc, &self.room, &change.room)?;
+        let vector = with_rows(alloc, &self.vector, &change.vector)?;
         self.writes.apply(alloc, change)?;
         let board = self.board.take();
         self.meta = change.meta;
@@ -313,17 +302,19 @@ impl Memory {
     fn place_of(&self, room: &RoomName, id: WriteId) -> Result<Option<PlaceRow>, AllocError>
         ensures { IfOk result (λ row. IsPlaceOf room.now id self.now row) }
     {
-        if let Some(row) = self.writes.booking.row_in(id, room)? {
-            return Ok(Some(PlaceRow::Booked(row)));
+        let alloc = self.alloc;
+        let writes = &self.writes;
+        if let Some(row) = writes.booking.get_in(id, room) {
+            return Ok(Some(PlaceRow::Booked(row.copied(alloc)?)));
         }
-        if let Some(row) = self.writes.errorlog.row_in(id, room)? {
-            return Ok(Some(PlaceRow::Logged(row)));
+        if let Some(row) = writes.errorlog.get_in(id, room) {
+            return Ok(Some(PlaceRow::Logged(row.copied(alloc)?)));
         }
-        if let Some(row) = self.writes.cancelled.row_in(id, room)? {
-            return Ok(Some(PlaceRow::Cancelled(row)));
+        if let Some(row) = writes.cancelled.get_in(id, room) {
+            return Ok(Some(PlaceRow::Cancelled(row.copied(alloc)?)));
         }
-        match self.writes.cancels.row_in(id, room)? {
-            Some(row) => Ok(Some(PlaceRow::Cancel(row))),
+        match writes.cancels.get_in(id, room) {
+            Some(row) => Ok(Some(PlaceRow::Cancel(row.copied(alloc)?))),
             None => Ok(None),
         }
     }

@@ -3,7 +3,7 @@ use Rattle.mr_model.specs.Replies.{RoomAdded}
 use Rattle.mr_model.specs.Scopes.{Nothing}
 use Rattle.mr_model.specs.Step.{add_room}
 use Rattle.mr_replica.proofs.Steps.{room_step}
-use Rattle.mr_replica.proofs.Taken.{turned, unmade, never_unmade}
+use Rattle.mr_replica.proofs.Taken.{turned, unmade}
 use Rattle.mr_tables.specs.Change.{ChangeView}
 use Rattle.mr_base.specs.declared.refusals.Refusal.TheVariants as refusal
 use Rattle.mr_replica.proofs.Dues.{due_step, is_known_to, room_there}
@@ -18,9 +18,6 @@ returns-in-Err-clause-step c = unmade (λ a. add_room a c.args.room.now) (λ _ (
 
 pub returns-in-Ok-clause-own : goal.returns-in-Ok-clause-own
 returns-in-Ok-clause-own c = λ a h. c.changed_so.ensures.own c.add_room.ensures.own
-
-pub returns-in-Err-clause-own : goal.returns-in-Err-clause-own
-returns-in-Err-clause-own c = λ a h. never_unmade c.in-Err.refusal (c.in-Err.ensures.only a h)
 
 pub returns-then-knows-clause-step : goal.returns-then-knows-clause-step
 returns-then-knows-clause-step c =

@@ -5,7 +5,7 @@ use Rattle.mr_model.specs.Replies.{BatchIs}
 use Rattle.mr_model.specs.Scopes.{Above}
 use Rattle.mr_model.specs.Step.{leave, batch_reply}
 use Rattle.mr_part.specs.Parts.{IsPartOf}
-use Rattle.mr_replica.proofs.Taken.{answered, unmade, never_unmade}
+use Rattle.mr_replica.proofs.Taken.{answered, unmade}
 use Rattle.mr_replica.proofs.desk.Desk.batch.Goals as goal
 
 pub returns-in-Ok-clause-step : goal.returns-in-Ok-clause-step
@@ -16,6 +16,3 @@ returns-in-Err-clause-step c = unmade (λ a. leave a (batch_reply a c.args.posit
 
 pub returns-in-Ok-clause-own : goal.returns-in-Ok-clause-own
 returns-in-Ok-clause-own c = λ a h. c.batch.ensures.own c.in-Ok.ensures.within
-
-pub returns-in-Err-clause-own : goal.returns-in-Err-clause-own
-returns-in-Err-clause-own c = λ a h. never_unmade c.in-Err.refusal (c.in-Err.ensures.only a h)

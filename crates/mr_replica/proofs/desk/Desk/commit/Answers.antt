@@ -3,7 +3,7 @@ use Rattle.mr_model.specs.Replies.{CommittedIs}
 use Rattle.mr_model.specs.Scopes.{NextCommits}
 use Rattle.mr_model.specs.Step.{commit}
 use Rattle.mr_replica.proofs.Steps.{commit_step}
-use Rattle.mr_replica.proofs.Taken.{turned, unmade, never_unmade}
+use Rattle.mr_replica.proofs.Taken.{turned, unmade}
 use Rattle.mr_tables.specs.Change.{ChangeView}
 use Rattle.mr_replica.proofs.desk.Desk.commit.Goals as goal
 
@@ -16,6 +16,3 @@ returns-in-Err-clause-step c = unmade (位 a. commit a c.args.k) (位 _ (done : 鈩
 
 pub returns-in-Ok-clause-own : goal.returns-in-Ok-clause-own
 returns-in-Ok-clause-own c = 位 a h. c.changed_by.ensures.own c.commit.ensures.own
-
-pub returns-in-Err-clause-own : goal.returns-in-Err-clause-own
-returns-in-Err-clause-own c = 位 a h. never_unmade c.in-Err.refusal (c.in-Err.ensures.only a h)

@@ -2,7 +2,7 @@ use Rattle.mr_model.specs.Positions.{position_of}
 use Rattle.mr_model.specs.Replies.{PositionIs}
 use Rattle.mr_model.specs.Scopes.{Nothing}
 use Rattle.mr_model.specs.Step.{leave}
-use Rattle.mr_replica.proofs.Taken.{answered, unmade, never_unmade}
+use Rattle.mr_replica.proofs.Taken.{answered, unmade}
 use Rattle.mr_replica.proofs.desk.Desk.position.Goals as goal
 
 pub returns-in-Ok-clause-step : goal.returns-in-Ok-clause-step
@@ -13,6 +13,3 @@ returns-in-Err-clause-step c = unmade (λ a. leave a (PositionIs (position_of a)
 
 pub returns-in-Ok-clause-own : goal.returns-in-Ok-clause-own
 returns-in-Ok-clause-own c = λ a h. c.position.ensures.own c.in-Ok.ensures.within
-
-pub returns-in-Err-clause-own : goal.returns-in-Err-clause-own
-returns-in-Err-clause-own c = λ a h. never_unmade c.in-Err.refusal (c.in-Err.ensures.only a h)

@@ -7,7 +7,7 @@ use Rattle.mr_base.specs.Batches.{item_of}
 use Rattle.mr_part.specs.Parts.{IsPartOf}
 use Rattle.mr_replica.proofs.Steps.{batch_step}
 use Rattle.mr_replica.proofs.Taken.{IsPartFrom}
-use Rattle.mr_replica.proofs.Taken.{turned, unmade, never_unmade}
+use Rattle.mr_replica.proofs.Taken.{turned, unmade}
 use Rattle.mr_tables.specs.Change.{ChangeView}
 use Rattle.mr_replica.proofs.desk.Desk.receive.Goals as goal
 
@@ -24,6 +24,3 @@ returns-in-Err-clause-step c = unmade (λ a. receive_batch a c.args.batch.now) (
 
 pub returns-in-Ok-clause-own : goal.returns-in-Ok-clause-own
 returns-in-Ok-clause-own c = λ a h. c.changed_by_batch.ensures.own c.receive.ensures.own
-
-pub returns-in-Err-clause-own : goal.returns-in-Err-clause-own
-returns-in-Err-clause-own c = λ a h. never_unmade c.in-Err.refusal (c.in-Err.ensures.only a h)

@@ -3,7 +3,7 @@ use Rattle.mr_model.specs.Replies.{DroppedIs}
 use Rattle.mr_model.specs.Scopes.{UpTo}
 use Rattle.mr_model.specs.Step.{truncate}
 use Rattle.mr_replica.proofs.Steps.{truncate_step}
-use Rattle.mr_replica.proofs.Taken.{turned, unmade, never_unmade}
+use Rattle.mr_replica.proofs.Taken.{turned, unmade}
 use Rattle.mr_tables.specs.Change.{ChangeView}
 use Rattle.mr_replica.proofs.desk.Desk.truncate.Goals as goal
 
@@ -16,6 +16,3 @@ returns-in-Err-clause-step c = unmade (λ a. truncate a c.args.number) (λ _ (do
 
 pub returns-in-Ok-clause-own : goal.returns-in-Ok-clause-own
 returns-in-Ok-clause-own c = λ a h. c.changed_by.ensures.own c.truncate.ensures.own
-
-pub returns-in-Err-clause-own : goal.returns-in-Err-clause-own
-returns-in-Err-clause-own c = λ a h. never_unmade c.in-Err.refusal (c.in-Err.ensures.only a h)
