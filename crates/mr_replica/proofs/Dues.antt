@@ -82,7 +82,8 @@ no_stamp t a e h (inr (is, early, full)) =
 pub exhausted_request : (q : Request) (t : Tables) (a : Replica) (e : Refusal) → Stands t a → knows_room a q.room ≡ true → IsExhausted t e → submit_request q a ≡ refuse a (refusal_of e)
 exhausted_request q t a e h known end = subst (Submits a q) (no_stamp t a e h end) (submits a q h.sound known)
 
-pub exhausted_cancel : (room : Text) (target : Id) (t : Tables) (a : Replica) (e : Refusal) → Stands t a → knows_room a room ≡ true → knows_booking a room target ≡ true → IsExhausted t e → cancel_request room target a ≡ refuse a (refusal_of e)
+pub exhausted_cancel : (room : Text) (target : Id) (t : Tables) (a : Replica) (e : Refusal) → Stands t a → knows_room a room ≡ true → knows_booking a room target ≡ true
+    → IsExhausted t e → cancel_request room target a ≡ refuse a (refusal_of e)
 exhausted_cancel room target t a e h known has end = subst (Withdraws a room target) (no_stamp t a e h end) (withdraws a room target h.sound known has)
 
 pub never_exhausted : (t : Tables) (e : Refusal) → IsExhausted t e → ¬ (e ≡ refusal.Store)
@@ -109,7 +110,8 @@ module _ (room : Text) (target : Id) where
   has_row : (t : Tables) → has_booking room target t ≡ true → HasRowOfRoom (in_scope (OfTarget target) t) room
   has_row t = go (find_booking room target t) refl (find_error room target t) refl (find_cancelled room target t) refl
     where
-      go : (b : Option BookingRow) → find_booking room target t ≡ b → (e : Option ErrorRow) → find_error room target t ≡ e → (c : Option CancelledRow) → find_cancelled room target t ≡ c → (is_some b || is_some e || is_some c) ≡ true → HasRowOfRoom (in_scope (OfTarget target) t) room
+      go : (b : Option BookingRow) → find_booking room target t ≡ b → (e : Option ErrorRow) → find_error room target t ≡ e
+          → (c : Option CancelledRow) → find_cancelled room target t ≡ c → (is_some b || is_some e || is_some c) ≡ true → HasRowOfRoom (in_scope (OfTarget target) t) room
       go (Some row) f e g c k h = let (there, named) = of_found booking_id (λ r. r.room) t.booking row f in booked row there named
       go None f (Some row) g c k h = let (there, named) = of_found error_id (λ r. r.room) t.errorlog row g in logged row there named
       go None f None g (Some row) k h = let (there, named) = of_found cancelled_id (λ r. r.room) t.cancelled row k in cancelled row there named

@@ -14,7 +14,8 @@ use Rattle.mr_agree.proofs.FreeIds.{next_ids_are_free}
 use Rattle.mr_replica.specs.Taken.{is_taken}
 
 -- the next stamp by the count of the own writes
-pub stamp_told : (a : Replica) → IsReplica a → stamp_next (summary_of a) ≡ cond (nat_le greatest_time (clock_of a)) (Err ClockExhausted) (cond (nat_le greatest_count (count_of a a.server)) (Err CountExhausted) (Ok (record { server = a.server; n = count_of a a.server + 1; time = clock_of a + 1 })))
+pub stamp_told : (a : Replica) → IsReplica a
+    → stamp_next (summary_of a) ≡ cond (nat_le greatest_time (clock_of a)) (Err ClockExhausted) (cond (nat_le greatest_count (count_of a a.server)) (Err CountExhausted) (Ok (record { server = a.server; n = count_of a a.server + 1; time = clock_of a + 1 })))
 stamp_told a sound =
     let tally = ap (λ x. x.count) (tally-of a a.server (own_server a sound)) in
     λ i. cond (nat_le greatest_time (clock_of a)) (Err ClockExhausted) (cond (nat_le greatest_count (tally i)) (Err CountExhausted) (Ok (record { server = a.server; n = tally i + 1; time = clock_of a + 1 })))
