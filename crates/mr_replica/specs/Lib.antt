@@ -11,5 +11,6 @@ pub mod Ordered
 pub mod Picked
 pub mod RowKeys
 pub mod RowsAround
+pub mod SharedLog
 pub mod Taken
 pub mod Writes
