@@ -12,5 +12,6 @@ pub mod Ordered
 pub mod Picked
 pub mod Puts
 pub mod RowKeys
+pub mod SharedLog
 pub mod Taken
 pub mod Writes

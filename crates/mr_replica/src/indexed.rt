@@ -73,6 +73,11 @@ impl<R: KeyedRow> Indexed<R> {
         Ok(Indexed { alloc, rows, keys })
     }
 
+    /// How many rows there are.
+    pub(crate) fn len(&self) -> usize {
+        self.rows.len()
+    }
+
     /// Puts these rows, each in the place of the one of its write. If memory refuses, some of them are put.
     fn put_each(&mut self, rows: Vec<R>) -> Result<(), AllocError>
         ensures { OnOk result (self.new.rows ≡ put_all id_before R.id rows.items self.old.rows) }

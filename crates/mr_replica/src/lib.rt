@@ -14,6 +14,7 @@ mod puts;
 mod questions;
 mod row_key;
 mod shared_board;
+mod shared_log;
 mod writes;
 
 ghost use Rattle.mr_part.specs.Steps.{SubmissionsAreRequests, CancelsAreRequests, OtherCancelsAreRefused};

@@ -1,7 +1,6 @@
 ghost use Rattle.std.specs.Prelude.{◌≡◌, false, [], bytes_eq, filter, IfOk, IfErr, IfSome, OnOk, OnErr};
-ghost use Rattle.std.specs.List.{list_any};
 ghost use Rattle.mr_model.specs.Replica.{Replica, opening};
-ghost use Rattle.mr_model.specs.Scopes.{OfTarget, in_scope, with_rows};
+ghost use Rattle.mr_model.specs.Scopes.{Above, OfTarget, in_scope, with_rows};
 ghost use Rattle.mr_model.specs.Tables.{Stands, Tables as RowsOfTables, tables_of};
 ghost use Rattle.mr_tables.specs.BoardChanges.{HaveOneRowEach};
 ghost use Rattle.mr_tables.specs.Boards.{board_of};
@@ -10,12 +9,13 @@ ghost use Rattle.mr_tables.specs.Summary.{IsWithin};
 ghost use Rattle.mr_replica.specs.Desk.{StandsFor, IsWithinLimits};
 ghost use Rattle.mr_agree.specs.Ids.{has_place_of};
 ghost use Rattle.mr_part.specs.NextId.{id_given};
-ghost use Rattle.mr_part.specs.Parts.{IsPartOf};
+ghost use Rattle.mr_part.specs.Parts.{IsLogOf, IsPartOf};
 ghost use Rattle.mr_part.specs.ScopeOf.{scope_of};
 ghost use Rattle.mr_replica.specs.Answers.{IsAnswerTo, IsNamedAs};
 ghost use Rattle.mr_replica.specs.Ordered.{AreInOrder, IsDueOver};
 ghost use Rattle.mr_replica.specs.Needed.{is_log_needed};
 ghost use Rattle.mr_replica.specs.Picked.{IsPlaceOf};
+ghost use Rattle.mr_replica.specs.SharedLog.{IsSharedLog};
 ghost use Rattle.mr_replica.specs.Taken.{is_taken};
 ghost use Rattle.mr_replica.specs.Writes.{tables_with};
 
@@ -23,9 +23,11 @@ use crate::indexed::Indexed;
 use crate::order::are_in_order;
 use crate::puts::{put_rows, with_rows};
 use crate::shared_board::{board_after, is_of_rooms, shared_board};
+use crate::shared_log::shared_log;
 use crate::writes::Writes;
 use crate::{Answer, Desk, Question};
-use mr_base::{Refusal, RoomName, ServerId, WriteId};
+use mr_base::{Item, Refusal, RoomName, ServerId, WriteId};
+use mr_part::kept_rows::KeptRow;
 use mr_part::{Part, Scope};
 use mr_replay::Board;
 use mr_tables::board_changes::BoardTables;
@@ -37,6 +39,9 @@ use std::alloc::{AllocError, Global};
 use std::marker::Model;
 use std::rc::Rc;
 
+/// From so many rows on a log is shared: fewer are copied sooner than all are put in order.
+const MANY_ROWS: u64 = 256;
+
 /// A replica's rows in memory: the tables of writes by their ids and second keys, the short ones as lists in the order of their keys.
 #[derive(Drop)]
 pub struct Memory {
@@ -47,6 +52,9 @@ pub struct Memory {
     pub(crate) writes: Writes,
     /// The board that the tables tell, if it is there. Parts that go by rooms share it.
     board: Option<Rc<Board>>,
+    /// All kept writes in the order of execution, from when an office asks for many of them until the next change. Parts for batches
+    /// share them.
+    log: Option<Rc<Vec<KeptRow>>>,
 }
 
 impl Model for Memory {
@@ -54,7 +62,8 @@ impl Model for Memory {
 
     ghost view = { λ m. tables_with m.meta m.room.items m.vector.items m.writes };
 
-    ghost invariant = { λ m. IfSome m.board (λ board. board.value ≡ board_of (tables_with m.meta m.room.items m.vector.items m.writes)) };
+    ghost invariant = { λ m. IfSome m.board (λ board. board.value ≡ board_of (tables_with m.meta m.room.items m.vector.items m.writes))
+        × IfSome m.log (λ log. IsSharedLog (tables_with m.meta m.room.items m.vector.items m.writes) log.value.items) };
 }
 
 impl Memory {
@@ -93,6 +102,7 @@ impl Memory {
             vector: tables.vector,
             writes,
             board,
+            log: None,
         })
     }
 
@@ -111,16 +121,20 @@ impl Memory {
             vector: Vec::new(alloc),
             writes: Writes::new(alloc),
             board: None,
+            log: None,
         }
     }
 
-    /// Makes the board if a command of this scope wants one and there is none: so it is made when it is first wanted, and again after
-    /// it was lost. If memory doesn't take it, or a row is out of the limits, there is none.
+    /// Makes what a command of this scope shares if it isn't there, the board or the log: so it is made when it is first wanted, and again
+    /// after it was lost. If memory doesn't take it, or a row is out of the limits, there is none.
     pub fn want_board(&mut self, scope: &Scope<'_>)
         ensures { self.new ≡ self.old }
     {
         if self.board.is_none() && is_of_rooms(scope) {
             self.make_board();
+        }
+        if self.log.is_none() && self.is_for_many(scope) {
+            self.make_log();
         }
     }
 
@@ -132,12 +146,46 @@ impl Memory {
         }
     }
 
+    fn make_log(&mut self)
+        ensures { self.new ≡ self.old }
+    {
+        self.log = self.log_made();
+    }
+
+    /// All kept writes in the order of execution, if memory takes them.
+    fn log_made(&self) -> Option<Rc<Vec<KeptRow>>>
+        ensures { IfSome result (λ log. IsSharedLog self.now log.value.items) }
+    {
+        // For the prover alone: a scope may hold items.
+        let _none: Option<&Item> = None;
+        match self.rows_of_log(&Scope::Above(0)) {
+            Ok(tables) => shared_log(self.alloc, &tables),
+            Err(_) => None,
+        }
+    }
+
+    /// Whether a batch may be made of so many rows of the log that a log to be shared is worth its memory.
+    fn is_for_many(&self, scope: &Scope<'_>) -> bool {
+        match *scope {
+            Scope::Above(commits) => self.rows_above(commits) > MANY_ROWS,
+            _ => false,
+        }
+    }
+
+    /// How many rows of the log are of tentative writes or of commits above this number.
+    fn rows_above(&self, commits: u64) -> u64 {
+        let known = commits.min(self.meta.commits);
+        let all = self.writes.log.len() as u64;
+        all.saturating_sub(known.saturating_sub(self.meta.dropped))
+    }
+
     /// Makes the whole change, or nothing.
     pub fn apply(&mut self, change: &Change) -> Result<(), AllocError>
         ensures changed { OnOk result (self.new ≡ changed change.now self.old) }
         ensures refused { OnErr result (self.new ≡ self.old) }
     {
         let alloc = self.alloc;
+        self.log = None;
         let room = with_rows(alloc, &self.room, &change.room)?;
         let vector = with_rows(alloc, &self.vector, &change.vector)?;
         self.writes.apply(alloc, change)?;
@@ -184,7 +232,8 @@ impl Memory {
         Ok(part)
     }
 
-    /// The part of the tables that a command of this scope needs, over the board if there is one and the scope goes by rooms.
+    /// The part of the tables that a command of this scope needs: over the board if there is one and the scope goes by rooms, and over the
+    /// log if there is one and a batch for a position is asked for.
     pub(crate) fn part_for(&self, scope: &Scope<'_>) -> Result<Part, Refusal>
         ensures loaded { (a : Replica) → Stands self.now a → IfOk result (λ part. IsPartOf part (scope_of scope.now) a) }
         ensures only { (a : Replica) → Stands self.now a → IfErr result (λ e. e ≡ Refusal.OutOfMemory) }
@@ -197,8 +246,24 @@ impl Memory {
                 return Part::over_board(self.alloc, scope, &rows, shared);
             }
         }
+        if let Some(log) = &self.log {
+            if let Scope::Above(commits) = *scope {
+                return self.part_above(commits, log);
+            }
+        }
         let tables = self.rows_for(scope)?;
         Part::from_tables(self.alloc, scope, &tables)
+    }
+
+    /// The part for a batch for a position with so many commits, over this log.
+    fn part_above(&self, commits: u64, log: &Rc<Vec<KeptRow>>) -> Result<Part, Refusal>
+        ensures loaded { (a : Replica) → Stands self.now a → IsLogOf log.now.value.items a → IfOk result (λ part. IsPartOf part (Above commits) a) }
+        ensures only { (a : Replica) → Stands self.now a → IfErr result (λ e. e ≡ Refusal.OutOfMemory) }
+        ensures within { IfOk result (λ part. IsWithin part.summary) }
+    {
+        let tables = self.bare()?;
+        let shared: Rc<Vec<KeptRow>> = log.clone()?;
+        Part::over_log(self.alloc, commits, &tables, shared)
     }
 
     /// Tables with the rows that a command of this scope needs. For a cancel only the rows with its target's id are looked at. If the

@@ -5,7 +5,9 @@ use Rattle.mr_replica.proofs.ScopeRows.{carried}
 use Rattle.mr_replica.proofs.memory.Memory.apply.Goals as goal
 
 pub invariant_of-self-4 : goal.invariant_of-self-4
-invariant_of-self-4 c =
-    c.board_after.ensures c.args.self.now
-    (carried _ c.take-board.result c.self.inside.board c.take-board.ensures.value (subst (λ t. IfSome c.self.inside.board (λ b. b.value ≡ board_of t)) c.self.view_is c.self.invariant))
-    (search rules) c.have_one_row_each.ensures
+invariant_of-self-4 c = (
+  c.board_after.ensures c.args.self.now
+      (carried _ c.take-board.result c.self.inside.board c.take-board.ensures.value (subst (λ t. IfSome c.self.inside.board (λ b. b.value ≡ board_of t)) c.self.view_is c.self.invariant.0))
+      (search rules) c.have_one_row_each.ensures,
+  tt,
+)

@@ -1,9 +1,10 @@
 use Rattle.std.proofs.Common.{◌≡◌, true, sym, ap, subst, ◌∙◌, rules}
-use Rattle.std.specs.Prelude.{IfErr}
+use Rattle.std.specs.Prelude.{IfErr, IfOk}
 use Rattle.std.proofs.lemmas.Result.{err_from_is_err_and}
 use Rattle.mr_base.specs.declared.refusals.Refusal.TheVariants.{OutOfMemory}
 use Rattle.mr_model.specs.Scopes.{in_scope}
-use Rattle.mr_part.specs.Parts.{without_bookings}
+use Rattle.mr_model.specs.Tables.{Stands}
+use Rattle.mr_part.specs.Parts.{IsPartOf, without_bookings}
 use Rattle.mr_part.specs.ScopeOf.{scope_of}
 use Rattle.mr_tables.specs.Boards.{board_of}
 use Rattle.mr_replica.specs.Needed.{is_of_rooms}
@@ -23,7 +24,7 @@ returns-then-is_of_rooms-clause-loaded c = λ a h.
     let same : c.in_ok-shared.shared.value ≡ c.in-Some.board.value = search rules in
     c.over_board.ensures.part a h.sound (by_rooms s rooms)
     (ap (λ v. without_bookings (in_scope s v)) c.in_ok-rows.ensures ∙ rooms_scope s c.args.self.now rooms ∙ ap (λ v. without_bookings (in_scope s v)) h.are)
-    (same ∙ some_of _ c.self.inside.board c.in-Some.board c.in-Some.is c.self.invariant ∙ ap board_of (c.self.view_is ∙ h.are))
+    (same ∙ some_of _ c.self.inside.board c.in-Some.board c.in-Some.is c.self.invariant.0 ∙ ap board_of (c.self.view_is ∙ h.are))
 
 pub returns-then-is_of_rooms-clause-only : goal.returns-then-is_of_rooms-clause-only
 returns-then-is_of_rooms-clause-only c = λ a h.
@@ -46,3 +47,8 @@ pub returns-in_err-tables-clause-only : goal.returns-in_err-tables-clause-only
 returns-in_err-tables-clause-only c = λ a h.
     let p = err_from_is_err_and c.from_residual-in_err-tables.result c.from_residual-in_err-tables.ensures.1 in
     subst (λ r. IfErr r (λ e. e ≡ OutOfMemory)) (sym p.1) p.2
+
+pub returns-in-Above-clause-loaded : goal.returns-in-Above-clause-loaded
+returns-in-Above-clause-loaded c = λ a h.
+    let log = some_of _ c.self.inside.log c.in-Some-log.log c.in-Some-log.is c.self.invariant.1 a (subst (λ t. Stands t a) (sym c.self.view_is) h) in
+    subst (λ s. IfOk c.part_above.result (λ part. IsPartOf part (scope_of s) a)) (sym c.in-Above.is) (c.part_above.ensures.loaded a h log)
