@@ -33,7 +33,7 @@ hostile_hands 100
 sockets 30
 faults 150
 failed_disk 30
-questions 60
+questions 120
 refused_memory 200
 refused_memory_of_tests 100
 http 60
