@@ -42,6 +42,9 @@ use std::rc::Rc;
 /// From so many rows on a log is shared: fewer are copied sooner than all are put in order.
 const MANY_ROWS: u64 = 256;
 
+/// How many lines a batch usually has. Whoever learns so many rows in such batches has about their square over this copied.
+const USUAL_LINES: u64 = 64;
+
 /// A replica's rows in memory: the tables of writes by their ids and second keys, the short ones as lists in the order of their keys.
 #[derive(Drop)]
 pub struct Memory {
@@ -167,7 +170,11 @@ impl Memory {
     /// Whether a batch may be made of so many rows of the log that a log to be shared is worth its memory.
     fn is_for_many(&self, scope: &Scope<'_>) -> bool {
         match *scope {
-            Scope::Above(commits) => self.rows_above(commits) > MANY_ROWS,
+            Scope::Above(commits) => {
+                let rows = self.rows_above(commits);
+                let copied = rows.saturating_mul(rows) / USUAL_LINES;
+                rows > MANY_ROWS && copied > self.writes.log.len() as u64
+            }
             _ => false,
         }
     }
