@@ -1,7 +1,7 @@
 """What the tools take from the toolchain's command `rt`: which crates there are, and with which words the prover is called.
 
 The public commands of `rt` prove all that there is, a crate after the other and an edit after the other. To do much of it side by side the tools call
-functions of the script itself, which a later toolchain may name otherwise. All these stand in the tables below, and nowhere else. Where one isn't
+functions of the script itself, which a later toolchain may name otherwise. All these stand in the tables below, and nowhere else. Where one of CALLS isn't
 there, or isn't what it was, `missing` says so: then each tool prints that in one line and runs public commands instead (plain.py), which takes
 longer and comes to the same verdict.
 """
@@ -26,8 +26,6 @@ CALLS = {
     "processors": (0, ()),
     "free": (0, ()),
     "read_edit": (2, ()),
-    "take_rlib": (1, ()),
-    "offer": (2, ()),
     "Crate.compile_by": (4, ()),
     "rtlib.crates_below": (1, ()),
     "rtlib.files_of": (1, ()),
@@ -42,6 +40,8 @@ CALLS = {
     "rtlib.Crate.words": (2, ("keeps",)),
     "rtlib.Crate.build_rlib": (2, ("anew",)),
 }
+# calls that a toolchain may lack, and what stands for each: without these two, no library of another clone is taken
+MAY_LACK = {"take_rlib": (1, (), lambda crate: False), "offer": (2, (), lambda crate, stamp: None)}
 # values with their types, and those that each crate has
 VALUES = {"rtlib.RATTLE": str, "rtlib.PARTS": tuple, "rtlib.STALE": re.Pattern}
 FIELDS = {"name": str, "folder": str, "rlib": str, "out": object, "is_program": bool, "deps": list}
@@ -152,6 +152,9 @@ def rt():
         sys.exit(missing())
     made = loaded()
     made.rtlib.Crate.stamp = once_a_crate(made.rtlib.Crate.stamp)
+    for name, (count, names, instead) in MAY_LACK.items():
+        if not takes(named(made, name), count, names):
+            setattr(made, name, instead)
     return made
 
 

@@ -113,6 +113,8 @@ class Tries:
 
     def __init__(self, folder):
         self.folder, self.repository, self.passed, self.failed = folder, f"{folder}/repository", 0, 0
+        # whether the toolchain hands libraries of one clone on to another
+        self.hands_on = False
         self.real = os.path.realpath(shutil.which("rt"))
         for path, text in FILES.items():
             write(f"{self.repository}/{path}", text)
@@ -173,10 +175,10 @@ class Tries:
         self.told(f"gate, {what}", status == 0 and says(printed) and of_ci and printed.endswith("\nedits: 2 passed, 0 failed\n"), printed)
 
     def another_clone(self, what):
-        """Whether a clone takes the libraries that this one proved, and proves the one whose text differs, and what stands on it."""
+        """Whether a clone takes the libraries that this one proved, if the toolchain hands them on, and proves the one whose text differs, and what stands on it."""
         own, taken = self.repository, "was proved in another clone on this machine"
-        for change, count in (("", 2), ("\n", 0)):
-            self.repository = f"{self.folder}/clone{count}"
+        for change, count in (("", 2 * self.hands_on), ("\n", 0)):
+            self.repository = f"{self.folder}/clone{len(change)}"
             shutil.copytree(own, self.repository, ignore=shutil.ignore_patterns("out"))
             write(f"{self.repository}/crates/low/src/lib.rt", FILES["crates/low/src/lib.rt"] + change)
             status, printed = self.run("prove", ["high"], None)
@@ -201,6 +203,8 @@ class Tries:
         import toolchain
 
         self.told("that no name is missing", toolchain.missing() == "", toolchain.missing())
+        made = toolchain.loaded()
+        self.hands_on = all(callable(toolchain.named(made, name)) for name in toolchain.MAY_LACK)
         for name in [*toolchain.CALLS, *toolchain.VALUES]:
             of, _, last = name.rpartition(".")
             at = toolchain.named(toolchain.loaded(), of) if of else toolchain.loaded()
@@ -211,6 +215,15 @@ class Tries:
                 told = toolchain.missing()
                 setattr(at, last, own)
                 self.told(f"that {name} is {what}", told == f"this `rt` has no {name} as these tools know it", told)
+        for name, (count, _, _) in toolchain.MAY_LACK.items():
+            own = getattr(made, name, None)
+            for what, other in (("missing", None), ("something else", lambda one, two, three, four, five: one)):
+                toolchain.missing.cache_clear()
+                toolchain.rt.cache_clear()
+                setattr(made, name, other)
+                is_well = toolchain.missing() == "" and not getattr(toolchain.rt(), name)(*[None] * count)
+                self.told(f"that {name} is {what}, and nothing is taken", is_well, toolchain.missing())
+                setattr(made, name, own)
 
 
 def write(path, text):
