@@ -32,9 +32,26 @@ sub list_of {
     fail('it has no list of rooms');
 }
 
+# What an escape of a string stands for, as bytes of UTF-8; a break of a line or a tab is a space, since a line of the print is a room.
+sub unescaped {
+    my ($escape) = @_;
+    return ' ' if $escape =~ /^[bfnrt]$/;
+    return $escape unless $escape =~ s/^u//;
+    my ($high, $low) = map { hex } split /\\u/, $escape;
+    my $code = defined $low ? 0x10000 + ($high - 0xD800) * 0x400 + $low - 0xDC00 : $high;
+    # half of a pair is no letter
+    $code = 0xFFFD if 0xD800 <= $code and $code <= 0xDFFF;
+    my $letter = $code < 32 ? ' ' : chr $code;
+    utf8::encode($letter);
+    return $letter;
+}
+
 sub text_of {
     my ($string) = @_;
-    return defined $string ? $string =~ s/^"|"$//gr =~ s/\\(.)/$1/gr : undef;
+    return undef unless defined $string;
+    $string =~ s/^"|"$//g;
+    $string =~ s/\\(u[dD][89abAB][0-9a-fA-F]{2}\\u[dD][c-fC-F][0-9a-fA-F]{2}|u[0-9a-fA-F]{4}|.)/unescaped($1)/ges;
+    return $string;
 }
 
 sub show {

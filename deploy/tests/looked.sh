@@ -125,6 +125,9 @@ sys.exit(names != {"svg", "rect", "text"})' "$folder/figures.svg"
     is 'a word that is no month' "$("$report" west 2027-4 x 2>&1; echo $?)" \
         'rooms-report: the words are: NAME [FROM TO], --svg NAME [FROM TO], or --write NAME DATABASE
 2'
+    is 'help without other files' "$(ROOMS_SHARE=/nowhere "$report" --help 2>&1 | head -n 1)" 'What the rooms of an office were used for, of its calendars alone, as a table or as a drawing:'
+    is 'a label with escapes' "$(printf '{"rooms": [{"name": "oak", "label": "Caf\\u00e9 \\ud83c\\udf33 \\"A\\\\B\\"\\n\\ud83c!"}]}' > "$ROOMS_ETC/east.json" && perl "$ROOMS_SHARE/page_rooms.pl" "$ROOMS_ETC/east.json")" \
+        "$(printf 'oak\tCaf\303\251 \360\237\214\263 "A\\B" \357\277\275!')"
     is 'an office that is not there' "$("$report" south 2>&1)" "rooms-report: $ROOMS_ETC/south.rooms.json can't be read"
     is 'days that are open' "$(sed -i 's/"from"/"days": ["Saturday"], &/' "$ROOMS_ETC/west.rooms.json" && "$report" west 2027-03 2027-03 | grep -c ',Saturday,2400,')" 3
 }
