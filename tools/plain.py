@@ -87,8 +87,8 @@ class Edit:
         named = re.search(r"^crate: (\S+)$", self.text, re.M)
         self.home = named[1] if named else crate.name
 
-    def turn(self, top):
-        """Makes the edit in the copy; returns the files' own texts, or None where it doesn't fit."""
+    def texts(self, top):
+        """The files' own texts and those that the edit makes of them, by path; None where an old text doesn't stand there once."""
         path, old, own, texts = "", "", {}, {}
         for line in self.text.split("\n"):
             word, _, text = line.partition(": ")
@@ -102,8 +102,15 @@ class Edit:
                 if not old or texts.get(path, "").count(old) != 1:
                     return None
                 texts[path] = texts[path].replace(old, text)
-        put(texts)
-        return own or None
+        return (own, texts) if own else None
+
+    def turn(self, top):
+        """Makes the edit in the copy; returns the files' own texts, or None where it doesn't fit."""
+        found = self.texts(top)
+        if not found:
+            return None
+        put(found[1])
+        return found[0]
 
 
 def put(texts):

@@ -20,12 +20,14 @@ run_lanes() {
     count_of 'tests/tools/lanes.py' "$scratch/out"
 }
 
-# which edits aren't tried again, and what is copied of a row that an edit names
+# whether each edit fits the text, which aren't tried again, and what is copied of a row that an edit names
 run_kept_edits() {
     if ! command -v python3 > /dev/null; then
-        echo 'skipped: tests/tools/kept.py, tests/tools/rows.py (no python3)'
+        echo 'skipped: tests/tools/edit_texts.py, tests/tools/kept.py, tests/tools/rows.py (no python3)'
         return
     fi
+    PYTHONDONTWRITEBYTECODE=1 python3 tests/tools/edit_texts.py 2>&1 | tee "$scratch/out"
+    count_of 'tests/tools/edit_texts.py' "$scratch/out"
     PYTHONDONTWRITEBYTECODE=1 python3 tests/tools/rows.py "$scratch/rows" 2>&1 | tee "$scratch/out"
     count_of 'tests/tools/rows.py' "$scratch/out"
     PYTHONDONTWRITEBYTECODE=1 python3 tests/tools/kept.py "$scratch/kept" 2>&1 | tee "$scratch/out"
