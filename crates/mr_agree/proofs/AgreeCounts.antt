@@ -105,7 +105,7 @@ below_greatest n [] h = absurd h
 below_greatest n (m ∷ ms) (inl e) = omega (arith, e)
 below_greatest n (m ∷ ms) (inr h) = let l : n ≤ greatest ms = below_greatest n ms h in omega (arith, l)
 
-greatest_below : (g : ℕ) (ns : List ℕ) → ((n : ℕ) → Has n ns → n ≤ g) → greatest ns ≤ g
+pub greatest_below : (g : ℕ) (ns : List ℕ) → ((n : ℕ) → Has n ns → n ≤ g) → greatest ns ≤ g
 greatest_below g [] f = omega arith
 greatest_below g (m ∷ ms) f =
     let first : m ≤ g = f m (inl refl) in

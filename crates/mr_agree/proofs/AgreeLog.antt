@@ -1,5 +1,5 @@
 -- The log of a replica has the writes that are not dropped: of each server its last ones.
-use Rattle.std.proofs.Common.{◌≡◌, length-drop, refl, sym, ap, ◌∙◌, subst, ℕ, zero, suc, ◌+◌, ◌-◌, ◌<◌, ◌≤◌, min, Bool, true, false, not, ◌&&◌, ◌||◌, eqb, List, [], ◌∷◌, ◌++◌, length, map, take, drop, ◌⊎◌, inl, inr, arith, eqb-true, eq-eqb, length-append}
+use Rattle.std.proofs.Common.{◌≡◌, length-drop, refl, sym, ap, ◌∙◌, subst, ℕ, zero, suc, ◌+◌, ◌-◌, ◌<◌, ◌≤◌, min, Bool, true, false, not, ◌&&◌, ◌||◌, eqb, ◌∷◌, ◌++◌, length, map, take, drop, ◌⊎◌, inl, inr, arith, eqb-true, eq-eqb, length-append}
 use Rattle.std.proofs.lemmas.Bool.{and_from, and_parts, true≢false, cases_eq, cond-true, cond-false, false_from_ne_true, not-true, or_left, or_right}
 use Rattle.std.proofs.lemmas.List.{length-map, length-take-le}
 use Rattle.std.proofs.lemmas.List.Elements.{filter-append}
@@ -23,6 +23,7 @@ use Rattle.mr_model.proofs.TruncateRows.{front-seq}
 use Rattle.mr_model.proofs.Orders.{taken_has}
 use Rattle.mr_agree.proofs.AgreeCounts.{total_count, all_counted, commit_server, all_true, all_three, all_four, same_mark_from, vector-at, known_first, row_id_known, rise_distinct, distinct_test, of_error, of_cancel}
 use Rattle.mr_agree.proofs.AgreeMarks.{row_tells}
+use Rattle.mr_model.proofs.Lists.{map-take}
 
 -- ---- ids of rows and of the log
 
@@ -61,11 +62,6 @@ log_id_known r id h g =
     (w, k, d, sym (ap log_id s) ∙ sym e)
 
 -- ---- the dropped writes of a server are its first
-
-map-take : {A B : Type 0} (f : A → B) (j : ℕ) (xs : List A) → map f (take j xs) ≡ take j (map f xs)
-map-take f zero xs = refl
-map-take f (suc j) [] = refl
-map-take f (suc j) (x ∷ xs) = ap (λ ys. f x ∷ ys) (map-take f j xs)
 
 -- the first commits have of each server its first writes
 pub commit_front : (r : Replica) (d s : ℕ) → IsReplica r → (m : ℕ) × (map (λ (i : Id). i.n) (commits_of s (take d r.commits)) ≡ numbers_on 1 m) × (m ≤ committed_count r s)

@@ -1,15 +1,15 @@
 -- What became of each write in a replica's log is what its place there tells.
-use Rattle.std.proofs.Common.{◌≡◌, refl, sym, ap, ◌∙◌, subst, ℕ, ◌+◌, ◌*◌, ◌/◌, Bool, true, false, not, cond, ◌&&◌, ◌||◌, eqb, List, [], ◌∷◌, ◌++◌, length, ◌⊎◌, inl, inr, Option, Some, None, arith, append_assoc, length-append, IsTrue, eq-eqb}
-use Rattle.std.proofs.lemmas.Bool.{and_from, and_parts, or_left, or_right}
+use Rattle.std.proofs.Common.{◌≡◌, refl, sym, ap, ◌∙◌, subst, ℕ, ◌+◌, ◌*◌, ◌/◌, Bool, true, false, not, cond, ◌&&◌, ◌||◌, eqb, [], ◌∷◌, ◌++◌, length, ◌⊎◌, inl, inr, Option, Some, None, arith, length-append, IsTrue, eq-eqb}
+use Rattle.std.proofs.lemmas.Bool.{and_from, or_left, or_right}
 use Rattle.std.proofs.lemmas.Slice.Eq.{bytes_eq-Decides}
 use Rattle.std.specs.Prelude.{flat_map}
 use Rattle.std.specs.Str.{bytes_eq}
-use Rattle.std.specs.List.{AllByRecursion, list_all, list_any, slice_get}
+use Rattle.std.specs.List.{list_any, slice_get}
 use Rattle.mr_model.specs.Dropped.{Has}
 use Rattle.mr_model.specs.Texts.{Text, words}
 use Rattle.mr_model.specs.Calendar.{date_text, time_text}
-use Rattle.mr_model.specs.Slots.{Slot, is_slot, same_slot, slot_words}
-use Rattle.mr_model.specs.Writes.{Id, Meeting, Action, Books, Cancels, Write, id_of, same_id, choices_of, choices_in, is_meeting, is_action, is_title, is_length, greatest_alternatives, fits_day}
+use Rattle.mr_model.specs.Slots.{Slot, same_slot, slot_words}
+use Rattle.mr_model.specs.Writes.{Id, Meeting, Action, Books, Cancels, Write, id_of, same_id, choices_of, choices_in, is_meeting, is_action}
 use Rattle.mr_model.specs.Replay.{Place, Taken, Logged, Done, Void, slot_at}
 use Rattle.mr_model.specs.Replica.{Replica, IsReplica, is_committed}
 use Rattle.mr_model.specs.Exchange.{slots_at}
@@ -19,8 +19,8 @@ use Rattle.mr_model.specs.Queries.{booking_id, error_id, cancel_id, is_marked}
 use Rattle.mr_agree.specs.Agreeing.{same_mark, same_booking, same_error, same_cancel, slots_in, taken_row, logged_row, cancelling_row, has_taken, has_logged, is_at_place, do_places_agree}
 use Rattle.mr_model.proofs.Members.{any_has, same_id_refl}
 use Rattle.mr_model.proofs.SlotTests.{same_date_refl}
-use Rattle.mr_model.proofs.LinesReadBack.{slots_all, slots-read, words-cons}
-use Rattle.mr_model.proofs.RowsById.{known_write, action_within}
+use Rattle.mr_model.proofs.LinesReadBack.{slots-read}
+use Rattle.mr_model.proofs.RowsById.{known_write, action_within, meeting_slots, slots_long, words-snoc}
 use Rattle.mr_model.proofs.RowsOfKnown.{rows_of_known}
 use Rattle.mr_model.proofs.RowsTell.{of_known}
 use Rattle.mr_model.proofs.RoomTold.{known_went, committed-seq}
@@ -28,24 +28,6 @@ use Rattle.mr_model.proofs.Runs.{Went, took, failed, did, missed}
 use Rattle.mr_agree.proofs.AgreeCounts.{all_true, same_mark_from}
 
 -- ---- the slots of a text of choices
-
-words-snoc : (t : Text) (ts : List Text) → words (t ∷ (ts ++ [] ∷ [])) ≡ words (t ∷ ts) ++ 32 ∷ []
-words-snoc t [] = refl
-words-snoc t (u ∷ us) = ap (λ x. t ++ 32 ∷ x) (words-snoc u us) ∙ sym (append_assoc t (32 ∷ words (u ∷ us)) (32 ∷ []))
-
-slots_long : (ss : List Slot) → length (words (flat_map slot_words ss ++ [] ∷ [])) ≡ 17 * length ss
-slots_long [] = refl
-slots_long (s ∷ ss) =
-    let rest : length (words (flat_map slot_words ss ++ [] ∷ [])) ≡ 17 * length ss = slots_long ss in
-    let time : length (words (time_text s.start ∷ (flat_map slot_words ss ++ [] ∷ []))) ≡ length (time_text s.start ++ 32 ∷ words (flat_map slot_words ss ++ [] ∷ [])) = ap length (words-cons (time_text s.start) (flat_map slot_words ss) []) in
-    let more : length (time_text s.start ++ 32 ∷ words (flat_map slot_words ss ++ [] ∷ [])) ≡ 5 + (1 + length (words (flat_map slot_words ss ++ [] ∷ []))) = length-append (time_text s.start) (32 ∷ words (flat_map slot_words ss ++ [] ∷ [])) ∙ omega arith in
-    let day : length (date_text s.day ++ 32 ∷ words (time_text s.start ∷ (flat_map slot_words ss ++ [] ∷ []))) ≡ 10 + (1 + length (words (time_text s.start ∷ (flat_map slot_words ss ++ [] ∷ [])))) = length-append (date_text s.day) (32 ∷ words (time_text s.start ∷ (flat_map slot_words ss ++ [] ∷ []))) ∙ omega arith in
-    day ∙ omega (arith, rest, time, more)
-
-meeting_slots : (m : Meeting) → is_meeting m ≡ true → AllByRecursion (λ s. is_slot s ≡ true) (choices_of m)
-meeting_slots m ok =
-    slots_all m.length (choices_of m)
-    (and_parts (is_title m.title && is_length m.length && Rattle.std.proofs.Common.leb (length m.alternatives) greatest_alternatives) (list_all (λ s. is_slot s && fits_day m.length s) (choices_of m)) ok).1
 
 count_of_text : (t u : Text) (n : ℕ) → u ≡ t ++ 32 ∷ [] → length u ≡ 17 * n → (length t + 1) / 17 ≡ n
 count_of_text t u n e l =

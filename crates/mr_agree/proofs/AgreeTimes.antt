@@ -5,7 +5,7 @@ use Rattle.std.specs.List.{list_all}
 use Rattle.mr_model.specs.Dropped.{Has}
 use Rattle.mr_model.specs.Texts.{within, numbers_on}
 use Rattle.mr_model.specs.Writes.{Id, Write, id_of, same_id, stamp_before}
-use Rattle.mr_model.specs.Replica.{Replica, IsReplica, greatest, last_time, count_of, writes_of, is_among}
+use Rattle.mr_model.specs.Replica.{Replica, IsReplica, last_time, count_of, writes_of, is_among}
 use Rattle.mr_model.specs.Tables.{VectorRow, ErrorRow, CancelRow, LogRow, Erred, Cancel, Tables, seq_of, tables_of}
 use Rattle.mr_agree.specs.Agreeing.{Note, log_note, error_note, cancel_note, notes, does_time_agree, are_numbers_in_order, do_two_agree, do_times_agree}
 use Rattle.mr_model.proofs.Members.{has_split, map_has, filter_has, all_has, Sorted, same_id-true, same_id_from}
@@ -15,7 +15,7 @@ use Rattle.mr_model.proofs.RowsById.{at_seq}
 use Rattle.mr_model.proofs.RowsOfKnown.{rows_of_known}
 use Rattle.mr_model.proofs.TruncateRows.{front-seq}
 use Rattle.mr_model.proofs.UniqueReplay.{some_inj}
-use Rattle.mr_agree.proofs.AgreeCounts.{all_true, vector-at, late, time_of, of_error, of_cancel}
+use Rattle.mr_agree.proofs.AgreeCounts.{all_true, vector-at, late, time_of, of_error, of_cancel, greatest_below}
 use Rattle.mr_agree.proofs.AgreeMarks.{row_tells}
 use Rattle.mr_agree.proofs.AgreeLog.{front_before}
 
@@ -97,18 +97,11 @@ one_number r x y q e f low =
 
 -- ---- the last of each server
 
-greatest_at : (g : ℕ) (ns : List ℕ) → ((n : ℕ) → Has n ns → n ≤ g) → greatest ns ≤ g
-greatest_at g [] f = omega arith
-greatest_at g (m ∷ ms) f =
-    let first : m ≤ g = f m (inl refl) in
-    let rest : greatest ms ≤ g = greatest_at g ms (λ n h. f n (inr h)) in
-    omega (arith, first, rest)
-
 pub last_is : (r : Replica) (w : Write) → IsReplica r → Has w r.known → w.stamp.n ≡ count_of r w.stamp.server → w.stamp.time ≡ last_time r w.stamp.server
 last_is r w h a e =
     let low : w.stamp.time ≤ last_time r w.stamp.server = late r w a in
     let high : last_time r w.stamp.server ≤ w.stamp.time =
-    greatest_at w.stamp.time (map time_of (writes_of w.stamp.server r.known))
+    greatest_below w.stamp.time (map time_of (writes_of w.stamp.server r.known))
     (λ n g. let (v, i, s) = map_has time_of n (writes_of w.stamp.server r.known) g in
     let f = filter_has (λ x. eqb x.stamp.server w.stamp.server) v r.known i in
     let own : v.stamp.server ≡ w.stamp.server = eqb-true v.stamp.server w.stamp.server f.1 in

@@ -11,6 +11,8 @@ use Rattle.mr_tables.specs.TableOrders.{InOrder, id_order, id_before-true, id_be
 use Rattle.mr_agree.specs.Agreeing.{Note, are_numbers_in_order}
 use Rattle.mr_audit.proofs.SortedIds.{index_has}
 use Rattle.mr_audit.specs.Turns.{comes_before, is_same_note, are_in_turn, are_two_in_turn, FrontFits, BehindFits}
+use Rattle.mr_model.proofs.RowsOfKnown.{id_apart}
+use Rattle.mr_model.proofs.MembersAlike.{bool_same}
 
 -- ---- commit numbers
 
@@ -79,16 +81,13 @@ later_trans a b c p q = (
       (omega (arith, x.0, y.0), numbers_trans a.seq b.seq c.seq x.1 y.1),
 )
 
-other_ids : (a b : Id) → IdBefore a b → same_id a b ≡ false
-other_ids a b h = false_from_ne_true (same_id a b) (λ e. id_order.irreflexive a (subst (λ i. id_before a i ≡ true) (sym (same_id-true a b e)) (id_before_from a b h)))
-
 other_ids_back : (a b : Id) → IdBefore a b → same_id b a ≡ false
 other_ids_back a b h = false_from_ne_true (same_id b a) (λ e. id_order.irreflexive a (subst (λ i. id_before a i ≡ true) (same_id-true b a e) (id_before_from a b h)))
 
 -- where one comes before the other, they are in turn in both orders
 pub turn_of_later : (a b : Note) → Later a b → (are_in_turn a b ≡ true) × (are_in_turn b a ≡ true)
 turn_of_later a b h = (
-  cond-false (same_id a.id b.id) (eqb a.time b.time && eqb a.seq b.seq) (not (eqb a.id.server b.id.server && ltb a.id.n b.id.n) || (ltb a.time b.time && are_numbers_in_order a.seq b.seq)) (other_ids a.id b.id h.0) ∙ go (cases_eq a.id.server b.id.server),
+  cond-false (same_id a.id b.id) (eqb a.time b.time && eqb a.seq b.seq) (not (eqb a.id.server b.id.server && ltb a.id.n b.id.n) || (ltb a.time b.time && are_numbers_in_order a.seq b.seq)) (id_apart a.id b.id h.0) ∙ go (cases_eq a.id.server b.id.server),
   cond-false (same_id b.id a.id) (eqb b.time a.time && eqb b.seq a.seq) (not (eqb b.id.server a.id.server && ltb b.id.n a.id.n) || (ltb b.time a.time && are_numbers_in_order b.seq a.seq)) (other_ids_back a.id b.id h.0)
       ∙ or_left (not (eqb b.id.server a.id.server && ltb b.id.n a.id.n)) (ltb b.time a.time && are_numbers_in_order b.seq a.seq)
       (ap not (false_from_ne_true (eqb b.id.server a.id.server && ltb b.id.n a.id.n)
@@ -109,7 +108,7 @@ pub later_of_turn : (a b : Note) → IdBefore a.id b.id → are_in_turn a b ≡ 
 later_of_turn a b i h = (
   i,
   λ same. go same i (or_cases (not (eqb a.id.server b.id.server && ltb a.id.n b.id.n)) (ltb a.time b.time && are_numbers_in_order a.seq b.seq)
-      (sym (cond-false (same_id a.id b.id) (eqb a.time b.time && eqb a.seq b.seq) (not (eqb a.id.server b.id.server && ltb a.id.n b.id.n) || (ltb a.time b.time && are_numbers_in_order a.seq b.seq)) (other_ids a.id b.id i)) ∙ h)),
+      (sym (cond-false (same_id a.id b.id) (eqb a.time b.time && eqb a.seq b.seq) (not (eqb a.id.server b.id.server && ltb a.id.n b.id.n) || (ltb a.time b.time && are_numbers_in_order a.seq b.seq)) (id_apart a.id b.id i)) ∙ h)),
 )
   where
     go : a.id.server ≡ b.id.server → IdBefore a.id b.id → (not (eqb a.id.server b.id.server && ltb a.id.n b.id.n) ≡ true) ⊎ ((ltb a.time b.time && are_numbers_in_order a.seq b.seq) ≡ true) → (a.time < b.time) × Numbers a.seq b.seq
@@ -166,11 +165,6 @@ index_all : {R : Type 0} (p : R → Bool) (rows : List R) → list_all p rows �
 index_all p [] h k d l = absurd (omega (arith, l))
 index_all p (x ∷ rows) h zero d l = (and_parts (p x) (list_all p rows) h).0
 index_all p (x ∷ rows) h (suc k) d l = index_all p rows (and_parts (p x) (list_all p rows) h).1 k d (omega (arith, l))
-
-pub same_tests : (a b : Bool) → (a ≡ true → b ≡ true) → (b ≡ true → a ≡ true) → a ≡ b
-same_tests true b f g = sym (f refl)
-same_tests false true f g = g refl
-same_tests false false f g = refl
 
 module _ {R : Type 0} (note : R → Note) (rows : List R) (a : Note) (at : ℕ) (order : InOrder comes_before note rows) (bound : at ≤ length rows) (point : IsPartitionPoint (λ r. id_before (note r).id a.id ≡ true) (λ r. id_before (note r).id a.id ≡ false) rows at) where
   all_fit : FrontFits note rows at a → BehindFits note rows at a → (k : ℕ) (d : R) → k < length rows → are_two_in_turn a (note (slice_index_or rows k d)) ≡ true
@@ -236,6 +230,6 @@ module _ {R : Type 0} (note : R → Note) (rows : List R) (a : Note) (at : ℕ) 
 
   pub fitting : (f b : Bool) → IsTrue f ↔ FrontFits note rows at a → IsTrue b ↔ BehindFits note rows at a → (f && b) ≡ list_all (λ r. are_two_in_turn a (note r)) rows
   fitting f b front behind =
-      same_tests (f && b) (list_all (λ r. are_two_in_turn a (note r)) rows)
+      bool_same (f && b) (list_all (λ r. are_two_in_turn a (note r)) rows)
       (λ t. let p = and_parts f b t in all_index (λ r. are_two_in_turn a (note r)) rows (all_fit (front.0 p.0) (behind.0 p.1)))
       (λ t. let all = index_all (λ r. are_two_in_turn a (note r)) rows t in and_from f b (front.1 (fit_front all)) (behind.1 (fit_behind all)))

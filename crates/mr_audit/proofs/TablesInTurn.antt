@@ -14,8 +14,9 @@ use Rattle.mr_agree.proofs.AgreeCounts.{all_true}
 use Rattle.mr_audit.specs.KeyOrders.{AreByRisingId}
 use Rattle.mr_audit.specs.Turns.{comes_before, are_in_turn, are_two_in_turn, are_all_in_turn, AreChains, AreInTurn, are_fitting, are_tables_fitting}
 use Rattle.mr_audit.specs.Apart.{do_numbers_differ, are_numbers_single}
-use Rattle.mr_audit.proofs.IdsApart.{and-true}
-use Rattle.mr_audit.proofs.NotesInTurn.{later-true, later_from, later_trans, later_of_turn, turn_of_later, turn_self, sorted_at, same_tests}
+use Rattle.mr_audit.proofs.IdsApart.{and-true, crossed}
+use Rattle.mr_audit.proofs.NotesInTurn.{later-true, later_from, later_trans, later_of_turn, turn_of_later, turn_self, sorted_at}
+use Rattle.mr_model.proofs.MembersAlike.{bool_same}
 
 -- ---- one table
 
@@ -138,7 +139,7 @@ module _ (t : Tables) where
   }
 
   pub tables_fitting : AreInTurn t → are_tables_fitting t ≡ are_all_in_turn t
-  tables_fitting o = same_tests (are_tables_fitting t) (are_all_in_turn t) there back
+  tables_fitting o = bool_same (are_tables_fitting t) (are_all_in_turn t) there back
     where
       there : are_tables_fitting t ≡ true → are_all_in_turn t ≡ true
       there h =
@@ -173,12 +174,6 @@ parted_test false x true true = refl
 parted_test false x true false = refl
 parted_test false x false true = refl
 parted_test false x false false = refl
-
-crossed : (a b c d : Bool) → ((a && b) && (c && d)) ≡ ((a && c) && (b && d))
-crossed true true c d = refl
-crossed true false true d = refl
-crossed true false false d = refl
-crossed false b c d = refl
 
 all_both : {A : Type 0} (p q : A → Bool) (xs : List A) → list_all (λ x. p x && q x) xs ≡ (list_all p xs && list_all q xs)
 all_both p q [] = refl

@@ -17,7 +17,7 @@ use Rattle.mr_convergence.specs.Convergence.{AcceptsNothing, IsQuiet, IsRunOf, I
 use Rattle.mr_model.proofs.OrderedSets.{all_map}
 use Rattle.mr_model.proofs.Fronts.{front_length, get_end, get-map, all_get, find_passes}
 use Rattle.mr_model.proofs.BatchesReadBack.{read-text, read_reads}
-use Rattle.mr_model.proofs.BatchItems.{given_within, IsOwn, items_own}
+use Rattle.mr_model.proofs.BatchItems.{given_within, IsOwn, items_own, none_beyond}
 use Rattle.mr_model.proofs.BatchesBring.{front_is_taken, whole_given, deliver_is}
 use Rattle.mr_convergence.proofs.Converging.{all_kept, handed_kept}
 use Rattle.mr_convergence.proofs.QuietSteps.{quiet_same, quiet_accepts}
@@ -34,23 +34,19 @@ use Rattle.mr_model.proofs.WordsReadBack.{all_append}
 use Rattle.mr_model.proofs.WorldFacts.{found_server, honest_replica, one_primary, history_of, agrees_of, found_put, others_put}
 use Rattle.mr_model.proofs.WorldPlacing.{Kept, put}
 use Rattle.mr_model.proofs.WorldSteps.{step_kept, made_items}
+use Rattle.mr_model.proofs.WorldKnowledge.{said_inj}
 
 -- ---- when a batch is given
 
 abbrev reply_of : Bool → Bool → Bool → Batch → Reply
 reply_of x y z b = batch_unless (first_refusal ((x, WrongPrimary) ∷ (y, Truncated) ∷ (z, NeedsVersion2) ∷ [])) b
 
-none-beyond : (xs : List Item) → list_any (is_beyond Second) xs ≡ false
-none-beyond [] = refl
-none-beyond (W w ∷ xs) = none-beyond xs
-none-beyond (C q id ∷ xs) = none-beyond xs
-
 reply-is : (a b : Replica) (m : ℕ) (y : Bool) → b.primary ≡ a.primary → ltb (length b.commits) a.dropped ≡ y → batch_reply a (position_of b) m ≡ reply_of false y false (batch_of a (position_of b) m)
 reply-is a b m y same e =
     let p = position_of b in
     ap (λ x. reply_of (not x) (ltb (length b.commits) a.dropped) (list_any (is_beyond Second) (batch_of a p m).items) (batch_of a p m)) (eq-eqb b.primary a.primary same)
     ∙ ap (λ x. reply_of false x (list_any (is_beyond Second) (batch_of a p m).items) (batch_of a p m)) e
-    ∙ ap (λ x. reply_of false y x (batch_of a p m)) (none-beyond (batch_of a p m).items)
+    ∙ ap (λ x. reply_of false y x (batch_of a p m)) (none_beyond (batch_of a p m).items)
 
 pub given_unless : (w : World) (s t m : ℕ) (a b : Replica) → IsHonest w → replica_of w s ≡ Some a → replica_of w t ≡ Some b → ((a.dropped ≤ length b.commits) × (batch_reply a (position_of b) m ≡ BatchIs (batch_of a (position_of b) m))) ⊎ ((length b.commits < a.dropped) × (batch_reply a (position_of b) m ≡ Refused Truncated))
 given_unless w s t m a b h ea eb = go (ltb (length b.commits) a.dropped) refl
@@ -119,9 +115,6 @@ abbrev Way : {m : ℕ} {w new : World} → Smooth m w new → ℕ → ℕ → Ty
 Way {m} {w} {new} c f t = IsHandedOn w c.quiet.steps c.quiet.replies new f t
 
 -- ---- one batch made and delivered whole
-
-said_inj : (x y : Reply) → Said x ≡ Said y → x ≡ y
-said_inj x y e = cc
 
 refused_isnt : (x : Reply) → IsCountOrGap x → x ≡ Refused OutOfMemory → ⊥
 refused_isnt x (count w c) e = cc

@@ -10,6 +10,7 @@ use Rattle.mr_model.specs.Board.{after}
 use Rattle.mr_model.specs.View.{View, Placed, placed_with, whole_places, committed_places, cancels_it, cancel_of, tell, booking_unless, booked_told, whole_list, committed_list}
 use Rattle.mr_model.proofs.UniqueReplay.{length-replay, booked_after}
 use Rattle.mr_model.proofs.RoomsApart.{replay-append, after-append}
+use Rattle.mr_model.proofs.Lists.{filter_true}
 
 -- the writes executed one after the other, from these bookings on
 abbrev pub placed_among : Bool → List Booking → List Write → List Placed
@@ -80,10 +81,6 @@ booked_by-whole v =
 -- no cancel of these takes it back
 abbrev pub stays : List Placed → Booking → Bool
 stays ps b = is_none (cancel_of b.id ps)
-
-filter-all : {A : Type 0} (xs : List A) → filter (λ x. true) xs ≡ xs
-filter-all [] = refl
-filter-all (x ∷ xs) = ap (λ ys. x ∷ ys) (filter-all xs)
 
 filter-filter : {A : Type 0} (f g h : A → Bool) (xs : List A) → ((x : A) → cond (g x) (f x) false ≡ h x) → filter f (filter g xs) ≡ filter h xs
 filter-filter f g h [] e = refl
@@ -157,7 +154,7 @@ one_told bs q ps = go q.place refl
         done w.action refl e ∙ sym (append-nil (filter (stays (q ∷ ps)) bs)) ∙ ap (λ cs. filter (stays (q ∷ ps)) bs ++ cs) (sym (nothing_told w Done (cancel_of (id_of w) ps) refl))
 
 pub told-stand : (bs : List Booking) (ps : List Placed) → booked_by bs ps ≡ filter (stays ps) bs ++ flat_map booked_told (tell ps)
-told-stand bs [] = sym (append-nil (filter (λ b. true) bs) ∙ filter-all bs)
+told-stand bs [] = sym (append-nil (filter (λ b. true) bs) ∙ filter_true bs)
 told-stand bs (q ∷ ps) =
     told-stand (booked_with bs q.write q.place) ps
     ∙ ap (λ cs. cs ++ flat_map booked_told (tell ps)) (one_told bs q ps)

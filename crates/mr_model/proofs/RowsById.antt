@@ -130,11 +130,11 @@ map_filter {A = A} {B = B} d f (x ∷ xs) = go (d x) (map_filter d f xs)
 
 -- ---- the text of choices
 
-words-snoc : (t : Text) (ts : List Text) → words (t ∷ (ts ++ [] ∷ [])) ≡ words (t ∷ ts) ++ 32 ∷ []
+pub words-snoc : (t : Text) (ts : List Text) → words (t ∷ (ts ++ [] ∷ [])) ≡ words (t ∷ ts) ++ 32 ∷ []
 words-snoc t [] = refl
 words-snoc t (u ∷ us) = ap (λ x. t ++ 32 ∷ x) (words-snoc u us) ∙ sym (append_assoc t (32 ∷ words (u ∷ us)) (32 ∷ []))
 
-slots_long : (ss : List Slot) → length (words (flat_map slot_words ss ++ [] ∷ [])) ≡ 17 * length ss
+pub slots_long : (ss : List Slot) → length (words (flat_map slot_words ss ++ [] ∷ [])) ≡ 17 * length ss
 slots_long [] = refl
 slots_long (s ∷ ss) =
     let rest : length (words (flat_map slot_words ss ++ [] ∷ [])) ≡ 17 * length ss = slots_long ss in
@@ -151,7 +151,7 @@ slots_same ss ts a b e =
     ∙ ap (λ l. slots_at (length ss) 0 l) e ∙ ap (λ k. slots_at k 0 (words (flat_map slot_words ts ++ [] ∷ []))) n
     ∙ slots-read ts 0 (words (flat_map slot_words ts ++ [] ∷ [])) [] b refl
 
-meeting_slots : (m : Meeting) → is_meeting m ≡ true → AllByRecursion (λ s. is_slot s ≡ true) (choices_of m)
+pub meeting_slots : (m : Meeting) → is_meeting m ≡ true → AllByRecursion (λ s. is_slot s ≡ true) (choices_of m)
 meeting_slots m ok =
     slots_all m.length (choices_of m)
     (and_parts (is_title m.title && is_length m.length && leb (length m.alternatives) greatest_alternatives) (list_all (λ s. is_slot s && fits_day m.length s) (choices_of m)) ok).1

@@ -78,16 +78,3 @@ first_passing p (suc k) [] f = refl
 first_passing {A} p (suc k) (x ∷ xs) f =
     ap (take (suc k)) (cond-true (p x) (x ∷ filter p xs) (filter p xs) (f x (inl refl)))
     ∙ ap (λ (ys : List A). x ∷ ys) (first_passing p k xs (λ y h. f y (inr h)))
-
--- the order of two tests doesn't matter
-pub passing_both : {A : Type 0} (p q : A → Bool) (xs : List A) → filter p (filter q xs) ≡ filter q (filter p xs)
-passing_both p q [] = refl
-passing_both {A} p q (x ∷ xs) = go (p x) refl (q x) refl (passing_both p q xs)
-  where
-    go : (b : Bool) → p x ≡ b → (c : Bool) → q x ≡ c → filter p (filter q xs) ≡ filter q (filter p xs) → filter p (cond c (x ∷ filter q xs) (filter q xs)) ≡ filter q (cond b (x ∷ filter p xs) (filter p xs))
-    go true e true k ih =
-        cond-true (p x) (x ∷ filter p (filter q xs)) (filter p (filter q xs)) e ∙ ap (λ (ys : List A). x ∷ ys) ih
-        ∙ sym (cond-true (q x) (x ∷ filter q (filter p xs)) (filter q (filter p xs)) k)
-    go true e false k ih = ih ∙ sym (cond-false (q x) (x ∷ filter q (filter p xs)) (filter q (filter p xs)) k)
-    go false e true k ih = cond-false (p x) (x ∷ filter p (filter q xs)) (filter p (filter q xs)) e ∙ ih
-    go false e false k ih = ih

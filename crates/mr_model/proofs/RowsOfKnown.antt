@@ -4,12 +4,12 @@ use Rattle.std.proofs.lemmas.Bool.{true≢false, cond-true, cond-false, false_fr
 use Rattle.std.specs.Prelude.{◌↔◌}
 use Rattle.std.specs.List.{filter, filter_map}
 use Rattle.mr_model.specs.Texts.{numbers_on}
-use Rattle.mr_model.specs.Writes.{Id, Write, id_of}
+use Rattle.mr_model.specs.Writes.{Id, Write, id_of, same_id}
 use Rattle.mr_model.specs.Replica.{Replica, count_of, is_dropped, IsReplica}
 use Rattle.mr_model.specs.Tables.{VectorRow, Tables, by_id, vector_row, log_row, booking_row, error_row, cancelled_row, cancel_row, tables_of}
 use Rattle.mr_model.specs.Dropped.{Has}
 use Rattle.mr_model.specs.Changes.{IdBefore, RiseById, AreInKeyOrder, HasRowsOfKnown, SameRows, HaveSameRows, AreSameTables}
-use Rattle.mr_model.proofs.Members.{has_filter, filter_has, has_filter_map, filter_map_has, has_map, map_has, sorted_same}
+use Rattle.mr_model.proofs.Members.{has_filter, filter_has, has_filter_map, filter_map_has, has_map, map_has, sorted_same, same_id-true}
 use Rattle.mr_model.proofs.RowsById.{has_flat, flat_has, has_numbers, has_by_id, by_id_has}
 use Rattle.mr_model.proofs.TablesTell.{vector_entry, in_row, counted_server}
 use Rattle.mr_model.proofs.ErrorsTell.{sorted_map}
@@ -64,6 +64,10 @@ rows_of_known r h =
 id_irreflexive : (a : Id) → IdBefore a a → ⊥
 id_irreflexive a (inl l) = omega (arith, l)
 id_irreflexive a (inr p) = omega (arith, p.1)
+
+-- an id before another is not it
+pub id_apart : (a b : Id) → IdBefore a b → same_id a b ≡ false
+id_apart a b before = false_from_ne_true (same_id a b) (λ e. id_irreflexive b (subst (λ i. IdBefore i b) (same_id-true a b e) before))
 
 id_trans : (a b c : Id) → IdBefore a b → IdBefore b c → IdBefore a c
 id_trans a b c (inl p) (inl q) = inl (omega (arith, p, q))

@@ -20,13 +20,13 @@ use Rattle.mr_model.proofs.Members.{find_has, take_drop}
 use Rattle.mr_model.proofs.KnownById.{partner, with_known}
 use Rattle.mr_model.proofs.PlacedInOrder.{placed_among, placed_id, booked_by-among, told-stand}
 use Rattle.mr_model.proofs.PlacesOfOrder.{placed_here}
-use Rattle.mr_model.proofs.CalendarsShow.{has_flat, flat_has}
+use Rattle.mr_model.proofs.CalendarsShow.{has_flat}
 use Rattle.mr_model.proofs.RoomTold.{told_id, told_placed, placed_told}
 use Rattle.mr_model.proofs.Runs.{run-among}
 use Rattle.mr_model.proofs.Cancellers.{told_whole, or_else}
 use Rattle.mr_model.proofs.MembersAlike.{SameMembers, among_alike}
 use Rattle.mr_model.proofs.DroppedApart.{dropped_board, dropped_list, later_from, later_list, kept_id, dropped_placed, later_placed, dropped_here, dropped_distinct, place-later, place-dropped, canceller-parts, canceller-later}
-use Rattle.mr_model.proofs.RowsById.{Paired, rows_from_pairs, map_filter, seq_behind}
+use Rattle.mr_model.proofs.RowsById.{Paired, rows_from_pairs, map_filter, seq_behind, flat_has}
 use Rattle.mr_model.proofs.RowsTell.{one_row}
 use Rattle.mr_model.proofs.RowCancels.{row_booking, row_by, made, made_at, row-made, row-cancel}
 use Rattle.mr_model.proofs.TablesTell.{kept_log}

@@ -328,8 +328,8 @@ not_there room b i q o none gone = go (same_id q i) refl
     go true e = none ∙ sym (ap (λ j. if_of room (row_at b j)) (same_id-true q i e) ∙ gone)
     go false e = refl
 
-apart : (room other : Text) → bytes_eq room other ≡ false → bytes_eq other room ≡ false
-apart room other e = false_from_ne_true (bytes_eq other room) (λ s. true≢false (sym (same_name room other (sym (one_name other room s))) ∙ e))
+apart_names : (room other : Text) → bytes_eq room other ≡ false → bytes_eq other room ≡ false
+apart_names room other e = false_from_ne_true (bytes_eq other room) (λ s. true≢false (sym (same_name room other (sym (one_name other room s))) ∙ e))
 
 pub other-executed : (room : Text) (b : Rows) (w : Write) → bytes_eq w.room room ≡ false → IsInOrder b → if_of room (row_at b (id_of w)) ≡ None → (q : Id) → if_of room (row_at (executed b w) q) ≡ if_of room (row_at b q)
 other-executed room b w other ordered new q =
@@ -341,7 +341,7 @@ other-executed room b w other ordered new q =
     unchanged false e = refl
     unchanged true e =
         let (row, at) = target_row b w.room q ordered (cancels_booked (bookings_of w.room b) w.action q e) in
-        let none : if_of room (row_at b q) ≡ None = if_of-apart w.room room (row_at b q) row at (apart w.room room other) in
+        let none : if_of room (row_at b q) ≡ None = if_of-apart w.room room (row_at b q) row at (apart_names w.room room other) in
         ap (option_map (change (with_mark (id_of w)))) none ∙ sym none
 
 pub other-undone : (room other : Text) (ws : List Write) (b : Rows) (w : Write) → bytes_eq other room ≡ false → IsInOrder b → HaveDistinctIds ws → is_among (id_of w) (map id_of ws) ≡ false → HoldsIn room (ws ++ w ∷ []) b

@@ -23,6 +23,7 @@ use Rattle.mr_tables.specs.Boards.{booking_entry, error_entry, cancelled_entry, 
 use Rattle.mr_tables.specs.BoardChanges.{row_of, HaveOneRowEach, cancel_told, row_told, with_told, told_anew}
 use Rattle.mr_tables.specs.Change.{ChangeView, changed, put, put_all, rows_without, id_before}
 use Rattle.mr_tables.specs.TableOrders.{InOrder, id_order}
+use Rattle.mr_tables.proofs.BoardsTold.{entries_ordered}
 
 or_none : (o : Option Row) → option_or o None ≡ o
 or_none None = refl
@@ -45,15 +46,11 @@ row_at-entries (e ∷ es) b i =
     go None true = refl
     go None false = refl
 
-in_order-entries : (es : List (Id × Row)) (b : Rows) → IsInOrder b → IsInOrder (put_entries es b)
-in_order-entries [] b h = h
-in_order-entries (e ∷ es) b h = in_order-entries es (insert_entry id_cmp b e.0 e.1) (in_order-put b e.0 e.1 h)
-
-in_order-board : (t : Tables) → IsInOrder (board_of t)
+board_in_order : (t : Tables) → IsInOrder (board_of t)
 unfolding IsStrictlySortedBy
-in_order-board t =
-    in_order-entries (map cancel_entry (filter is_void t.cancels)) _ (in_order-entries (map cancelled_entry t.cancelled) _
-    (in_order-entries (map error_entry t.errorlog) _ (in_order-entries (map booking_entry t.booking) [] tt)))
+board_in_order t =
+    entries_ordered (map cancel_entry (filter is_void t.cancels)) _ (entries_ordered (map cancelled_entry t.cancelled) _
+    (entries_ordered (map error_entry t.errorlog) _ (entries_ordered (map booking_entry t.booking) [] tt)))
 
 -- ---- one table, of which some rows are told
 
@@ -242,7 +239,7 @@ board_after c t b =
 
 pub board_changed : (c : ChangeView) (before t : Tables) → t ≡ changed c before → HaveOneRowEach t → board_after c t (board_of before) ≡ board_of t
 board_changed c before t is one =
-    same_rows _ (board_of t) (in_order-anew t (map cancel_id c.cancels) b6 o6) (in_order-board t) (λ q.
+    same_rows _ (board_of t) (in_order-anew t (map cancel_id c.cancels) b6 o6) (board_in_order t) (λ q.
     row-anew t (map cancel_id c.cancels) b6 q o6 (λ f7.
     row-anew t (map cancelled_id c.cancelled) b5 q o5 (λ f6.
     row-anew t (map (λ i. i) c.uncancelled) b4 q o4 (λ f5.
@@ -265,7 +262,7 @@ board_changed c before t is one =
     b0 = board_of before
 
     o0 : IsInOrder b0
-    o0 = in_order-board before
+    o0 = board_in_order before
 
     b1 : Rows
     b1 = told_anew t (map (λ i. i) c.unbooked) b0

@@ -48,7 +48,7 @@ place_within : (w : Write) (a : Action) (p : Place) (by : Option Id) (mark : Boo
 place_within w (Books m) p by mark seq n h e = meeting_within w m (slot_at w p) by mark seq n h (λ s f. slot_fits w m p s h e f)
 place_within w (Cancels t) p by mark seq n h e = tt
 
-known_within : (r : Replica) (w : Write) → IsReplica r → Has w r.known → PlaceWithin (place_row r w)
+pub known_within : (r : Replica) (w : Write) → IsReplica r → Has w r.known → PlaceWithin (place_row r w)
 known_within r w h a =
     let ok = known_write r w h a in
     let p = and_parts (is_server w.stamp.server && is_count w.stamp.n) (is_time w.stamp.time) (within w ok).stamp in

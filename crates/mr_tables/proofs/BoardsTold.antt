@@ -85,8 +85,8 @@ pub entries-append : (xs ys : List (Id × Row)) (b : Rows) → put_entries (xs +
 entries-append [] ys b = refl
 entries-append (x ∷ xs) ys b = entries-append xs ys (insert_entry id_cmp b x.0 x.1)
 
-all-entries : (t : Tables) → put_entries (all_entries t) [] ≡ board_of t
-all-entries t =
+board-entries : (t : Tables) → put_entries (all_entries t) [] ≡ board_of t
+board-entries t =
     let bs = map booking_entry t.booking in
     let es = map error_entry t.errorlog in
     let cs = map cancelled_entry t.cancelled in
@@ -187,7 +187,7 @@ entry_is r w e h a g k =
     parts.1 ∙ ap (known_row r) (one_known r v w h b a (parts.0 ∙ k))
 
 pub known_at : (r : Replica) (w : Write) → IsReplica r → Has w r.known → row_at (board_of (tables_of r)) (id_of w) ≡ known_row r w
-known_at r w h a = ap (λ b. row_at b (id_of w)) (sym (all-entries (tables_of r))) ∙ go (known_row r w) refl
+known_at r w h a = ap (λ b. row_at b (id_of w)) (sym (board-entries (tables_of r))) ∙ go (known_row r w) refl
   where
     go : (o : Option Row) → known_row r w ≡ o → row_at (put_entries (all_entries (tables_of r)) []) (id_of w) ≡ known_row r w
     go None k = put-keeps (known_row r w) (id_of w) (all_entries (tables_of r)) [] (λ e g s. entry_is r w e h a g s) (sym k)
@@ -197,7 +197,7 @@ known_at r w h a = ap (λ b. row_at b (id_of w)) (sym (all-entries (tables_of r)
 
 pub unknown_at : (r : Replica) (q : Id) → ((w : Write) → Has w r.known → id_of w ≡ q → ⊥) → row_at (board_of (tables_of r)) q ≡ None
 unknown_at r q f =
-    ap (λ b. row_at b q) (sym (all-entries (tables_of r)))
+    ap (λ b. row_at b q) (sym (board-entries (tables_of r)))
     ∙ put-keeps None q (all_entries (tables_of r)) [] (λ e g k. let (v, b, s) = entry_known r e g in absurd (f v b ((entry_parts r v e s).0 ∙ k))) refl
 
 -- ---- what is told of a room's list
@@ -297,6 +297,6 @@ entries_ordered (e ∷ es) b h = entries_ordered es (insert_entry id_cmp b e.0 e
 
 pub board_told : (r : Replica) → IsReplica r → Holds (order_of r) (board_of (tables_of r))
 board_told r h = record {
-  ordered = subst IsInOrder (all-entries (tables_of r)) (entries_ordered (all_entries (tables_of r)) [] Holds-empty.ordered);
+  ordered = subst IsInOrder (board-entries (tables_of r)) (entries_ordered (all_entries (tables_of r)) [] Holds-empty.ordered);
   rooms = λ room. holds_in r room h;
 }

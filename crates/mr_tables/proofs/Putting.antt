@@ -184,6 +184,11 @@ puts_make {R} before key o xs old new s t f g h =
 
 -- ---- rows taken away
 
+-- none taken away
+pub without_none : {R : Type 0} (key : R → Id) (rows : List R) → rows_without key [] rows ≡ rows
+without_none key [] = refl
+without_none key (row ∷ rows) = ap (λ more. row ∷ more) (without_none key rows)
+
 pub without_has : {R : Type 0} (key : R → Id) (gone : List Id) (row : R) (rows : List R) → Has row (rows_without key gone rows) → Has row rows × (Has (key row) gone → ⊥)
 without_has key gone row rows h =
     let p = filter_has (λ r. not (is_among (key r) gone)) row rows h in

@@ -24,8 +24,9 @@ use Rattle.mr_base.proofs.Readers.{same_reading}
 use Rattle.mr_wire.proofs.FieldLaws.{bind_some, number_takes, number_again}
 use Rattle.mr_wire.proofs.LineLaws.{behind_takes, behind_again, server_and_takes, server_and_again}
 use Rattle.mr_wire.proofs.HeaderLaws.{word_among, servers_under_take, servers_under_again}
-use Rattle.mr_wire.proofs.Ascii.{Low, is_text, words_low, number_low}
+use Rattle.mr_wire.proofs.Ascii.{is_text, number_low}
 use Rattle.mr_wire.proofs.LoopLaws.{first_line_is, no_line_left}
+use Rattle.mr_model.proofs.LowBytes.{words_low, Low}
 
 -- ---- the lines
 
