@@ -1,5 +1,6 @@
 -- What became of each write in a replica's log is what its place there tells.
-use Rattle.std.proofs.Common.{◌≡◌, refl, sym, ap, ◌∙◌, subst, ℕ, ◌+◌, ◌*◌, ◌/◌, Bool, true, false, not, cond, ◌&&◌, ◌||◌, eqb, [], ◌∷◌, ◌++◌, length, ◌⊎◌, inl, inr, Option, Some, None, arith, length-append, IsTrue, eq-eqb}
+use Rattle.std.proofs.Common.{◌≡◌, refl, sym, ap, ◌∙◌, subst, ℕ, ◌+◌, ◌*◌, ◌/◌, Bool, true, false, not, cond, ◌&&◌, ◌||◌, eqb}
+use Rattle.std.proofs.Common.{[], ◌∷◌, ◌++◌, length, ◌⊎◌, inl, inr, Option, Some, None, arith, length-append, IsTrue, eq-eqb}
 use Rattle.std.proofs.lemmas.Bool.{and_from, or_left, or_right}
 use Rattle.std.proofs.lemmas.Slice.Eq.{bytes_eq-Decides}
 use Rattle.std.specs.Prelude.{flat_map}
@@ -14,7 +15,8 @@ use Rattle.mr_model.specs.Replay.{Place, Taken, Logged, Done, Void, slot_at}
 use Rattle.mr_model.specs.Replica.{Replica, IsReplica, is_committed}
 use Rattle.mr_model.specs.Exchange.{slots_at}
 use Rattle.mr_model.specs.View.{place_of, canceller_of}
-use Rattle.mr_model.specs.Tables.{BookingRow, ErrorRow, CancelRow, LogRow, MeetingCells, seq_of, booked_in, erred_in, taken_back, as_booked, cancel_row_for, booking_place_row, place_row_for, place_row, as_booking, as_error, as_cancelled, as_cancel, choices_text, cells_of, log_row, tables_of}
+use Rattle.mr_model.specs.Tables.{BookingRow, ErrorRow, CancelRow, LogRow, MeetingCells, seq_of, booked_in, erred_in, taken_back, as_booked, cancel_row_for}
+use Rattle.mr_model.specs.Tables.{booking_place_row, place_row_for, place_row, as_booking, as_error, as_cancelled, as_cancel, choices_text, cells_of, log_row, tables_of}
 use Rattle.mr_model.specs.Queries.{booking_id, error_id, cancel_id, is_marked}
 use Rattle.mr_agree.specs.Agreeing.{same_mark, same_booking, same_error, same_cancel, slots_in, taken_row, logged_row, cancelling_row, has_taken, has_logged, is_at_place, do_places_agree}
 use Rattle.mr_model.proofs.Members.{any_has, same_id_refl}
@@ -39,7 +41,8 @@ count_of_text t u n e l =
 pub slots_in-text : (m : Meeting) → is_meeting m ≡ true → slots_in (choices_text m) ≡ choices_of m
 slots_in-text m ok =
     let text : words (flat_map slot_words (choices_of m) ++ [] ∷ []) ≡ choices_text m ++ 32 ∷ [] = words-snoc (date_text m.wish.day) (time_text m.wish.start ∷ flat_map slot_words m.alternatives) in
-    let n : (length (choices_text m) + 1) / 17 ≡ length (choices_of m) = count_of_text (choices_text m) (words (flat_map slot_words (choices_of m) ++ [] ∷ [])) (length (choices_of m)) text (slots_long (choices_of m)) in
+    let n : (length (choices_text m) + 1) / 17 ≡ length (choices_of m) =
+    count_of_text (choices_text m) (words (flat_map slot_words (choices_of m) ++ [] ∷ [])) (length (choices_of m)) text (slots_long (choices_of m)) in
     (λ i. slots_at (n i) 0 (sym text i))
     ∙ slots-read (choices_of m) 0 (words (flat_map slot_words (choices_of m) ++ [] ∷ [])) [] (meeting_slots m ok) refl
 
@@ -100,10 +103,13 @@ at_place r w h g = go (known_went r w h g)
     choices : (m : Meeting) (k : ℕ) → w.action ≡ Books m → slice_get (slots_in (choices_text m)) k ≡ slice_get (choices_of m) k
     choices m k f = ap (λ ss. slice_get ss k) (slots_in-text m (within_limits m f))
 
-    booked : (m : Meeting) (s : Slot) → record { room = w.room; day = s.day; start = s.start; stop = s.start + m.length; server = w.stamp.server; n = w.stamp.n; title = m.title; committed = is_marked (seq_of r w) } ≡ booked_in w m s (is_committed r (id_of w))
+    booked : (m : Meeting) (s : Slot)
+        → record { room = w.room; day = s.day; start = s.start; stop = s.start + m.length; server = w.stamp.server; n = w.stamp.n; title = m.title; committed = is_marked (seq_of r w) }
+        ≡ booked_in w m s (is_committed r (id_of w))
     booked m s = ap (λ b. booked_in w m s b) (sym (committed-seq r w))
 
-    taken : (m : Meeting) (s : Slot) (by : Option Id) → place_row r w ≡ booking_place_row w m (Some s) by (is_committed r (id_of w)) (seq_of r w) → has_taken (tables_of r) (log_row r w) (cells m) (Some s) ≡ true
+    taken : (m : Meeting) (s : Slot) (by : Option Id) → place_row r w ≡ booking_place_row w m (Some s) by (is_committed r (id_of w)) (seq_of r w)
+        → has_taken (tables_of r) (log_row r w) (cells m) (Some s) ≡ true
     taken m s None e =
         or_left (list_any (same_booking (taken_row (log_row r w) (cells m) s)) (tables_of r).booking) _
         (any_has (same_booking (taken_row (log_row r w) (cells m) s)) (booked_in w m s (is_committed r (id_of w))) (tables_of r).booking

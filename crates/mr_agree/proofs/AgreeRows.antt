@@ -6,7 +6,8 @@ use Rattle.mr_model.specs.Calendar.{Date}
 use Rattle.mr_model.specs.Replica.{Replica, opening}
 use Rattle.mr_model.specs.Step.{AddRoom, Submit, Cancel, Commit, Truncate, Submission, SlotWords}
 use Rattle.mr_model.specs.Tables.{Tables, BookingRow, tables_of}
-use Rattle.mr_agree.specs.Agreeing.{do_counts_agree, is_log_whole, do_limits_agree, does_meta_agree, do_ids_agree, do_marks_agree, do_rooms_agree, does_log_agree, do_times_agree, do_places_agree, do_cancels_agree, are_rows_apart, do_spans_agree, agree}
+use Rattle.mr_agree.specs.Agreeing.{do_counts_agree, is_log_whole, do_limits_agree, does_meta_agree, do_ids_agree, do_marks_agree, do_rooms_agree}
+use Rattle.mr_agree.specs.Agreeing.{does_log_agree, do_times_agree, do_places_agree, do_cancels_agree, are_rows_apart, do_spans_agree, agree}
 use Rattle.mr_agree.specs.Ids.{has_id}
 use Rattle.mr_model.specs.Writes.{Id}
 use Rattle.mr_model.proofs.Script.{Do, Lines, replica_after}

@@ -48,7 +48,8 @@ alike x y room day =
 -- ---- from one to the next
 
 -- a later place than an alike one, or an alike one behind
-place_joins : (x y z : BookingRow) (o p : Ordering) → place_cmp x y ≡ o → place_cmp y z ≡ p → (s t u : Bool) → or_alike o s ≡ true → or_alike p t ≡ true → (s ≡ true → t ≡ true → u ≡ true) → or_alike (place_cmp x z) u ≡ true
+place_joins : (x y z : BookingRow) (o p : Ordering) → place_cmp x y ≡ o → place_cmp y z ≡ p → (s t u : Bool)
+    → or_alike o s ≡ true → or_alike p t ≡ true → (s ≡ true → t ≡ true → u ≡ true) → or_alike (place_cmp x z) u ≡ true
 place_joins x y z Less Less e f s t u a b c = ap (λ o. or_alike o u) (places_total.trans x y z e f)
 place_joins x y z Less Equal e f s t u a b c =
     let back : place_cmp z y ≡ Equal = places_total.antisymm z y ∙ ap ordering_reverse f in

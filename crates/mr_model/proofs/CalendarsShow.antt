@@ -9,7 +9,8 @@ use Rattle.mr_model.specs.Writes.{Id, Meeting, Action, Books, Cancels, Write, id
 use Rattle.mr_model.specs.Replay.{Place, Taken, Logged, Done, Void, Booking, place_for, place_among, slot_at, booking_of, without_target, booked_with, replay}
 use Rattle.mr_model.specs.Board.{after}
 use Rattle.mr_model.specs.Replies.{Entry}
-use Rattle.mr_model.specs.View.{View, Placed, cancels_it, cancel_of, Told, tell, placed_with, whole_places, committed_places, booking_unless, booked_told, whole_list, committed_list, entry_with, entry_unless, entry_of}
+use Rattle.mr_model.specs.View.{View, Placed, cancels_it, cancel_of, Told, tell, placed_with, whole_places, committed_places}
+use Rattle.mr_model.specs.View.{booking_unless, booked_told, whole_list, committed_list, entry_with, entry_unless, entry_of}
 use Rattle.mr_model.specs.Laws.{Shows, ShowsStanding, AreApart, fate_of, of_committed, as_committed}
 use Rattle.mr_model.specs.Dropped.{Has}
 use Rattle.mr_model.proofs.Members.{has_left, has_right, has_split, filter_has, all_has, has_all, has_filter_map, filter_map_has, find_has}
@@ -218,7 +219,8 @@ committed_cancel i (x ∷ xs) ys h k = go (cancels_it i x.write.action x.place) 
 others_gone : (ys : List Placed) → AllMarked false ys → map as_committed (filter (λ t. t.is_committed) (tell ys)) ≡ []
 others_gone [] k = refl
 others_gone (y ∷ ys) k =
-    ap (λ b. map as_committed (cond b (record { write = y.write; is_committed = y.is_committed; place = y.place; cancelled_by = cancel_of (id_of y.write) ys } ∷ filter (λ t. t.is_committed) (tell ys)) (filter (λ t. t.is_committed) (tell ys)))) k.0
+    ap (λ b. map as_committed (cond b (record { write = y.write; is_committed = y.is_committed; place = y.place; cancelled_by = cancel_of (id_of y.write) ys } ∷
+    filter (λ t. t.is_committed) (tell ys)) (filter (λ t. t.is_committed) (tell ys)))) k.0
     ∙ others_gone ys k.1
 
 committed_tell : (xs ys : List Placed) → AllMarked true xs → AllMarked false ys → tell xs ≡ map as_committed (filter (λ t. t.is_committed) (tell (xs ++ ys)))
@@ -241,7 +243,8 @@ committed_part_told v =
     places = drop (length v.committed) (replay (v.committed ++ v.tentative))
 
 -- a cancel behind a tentative write is tentative
-later_cancel : (xs ys : List Placed) (t : Told) (c : Placed) → AllMarked true xs → AllMarked false ys → Has t (tell (xs ++ ys)) → t.is_committed ≡ false → t.cancelled_by ≡ Some c → c.is_committed ≡ false
+later_cancel : (xs ys : List Placed) (t : Told) (c : Placed) → AllMarked true xs → AllMarked false ys
+    → Has t (tell (xs ++ ys)) → t.is_committed ≡ false → t.cancelled_by ≡ Some c → c.is_committed ≡ false
 later_cancel [] [] t c h k i m e = absurd i
 later_cancel [] (y ∷ ys) t c h k (inl s) m e = cancel_marked (id_of y.write) false ys c k.1 (sym (ap (λ (u : Told). u.cancelled_by) s) ∙ e)
 later_cancel [] (y ∷ ys) t c h k (inr i) m e = later_cancel [] ys t c h k.1 i m e

@@ -20,7 +20,8 @@ placed_among mark bs (w ∷ ws) =
 
 pub placed_with-replay : (mark : Bool) (bs : List Booking) (ws : List Write) (ps : List Place) → placed_with mark ws (replay_among bs ws ++ ps) ≡ placed_among mark bs ws
 placed_with-replay mark bs [] ps = refl
-placed_with-replay mark bs (w ∷ ws) ps = ap (λ (ts : List Placed). record { write = w; is_committed = mark; place = place_among bs w } ∷ ts) (placed_with-replay mark (booked_with bs w (place_among bs w)) ws ps)
+placed_with-replay mark bs (w ∷ ws) ps =
+    ap (λ (ts : List Placed). record { write = w; is_committed = mark; place = place_among bs w } ∷ ts) (placed_with-replay mark (booked_with bs w (place_among bs w)) ws ps)
 
 drop-all : {A : Type 0} (xs ys : List A) (n : ℕ) → n ≡ length xs → drop n (xs ++ ys) ≡ ys
 drop-all [] ys n e = ap (λ m. drop m ys) e
@@ -114,7 +115,8 @@ nothing_told w p None e = ap (booking_of w) e
 nothing_told w p (Some q) e = refl
 
 -- one write: what stays of the bookings before and of its own
-one_told : (bs : List Booking) (q : Placed) (ps : List Placed) → filter (stays ps) (booked_with bs q.write q.place) ≡ filter (stays (q ∷ ps)) bs ++ booking_unless (cancel_of (id_of q.write) ps) q.write q.place
+one_told : (bs : List Booking) (q : Placed) (ps : List Placed)
+    → filter (stays ps) (booked_with bs q.write q.place) ≡ filter (stays (q ∷ ps)) bs ++ booking_unless (cancel_of (id_of q.write) ps) q.write q.place
 one_told bs q ps = go q.place refl
   where
     w : Write

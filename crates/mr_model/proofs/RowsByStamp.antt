@@ -53,12 +53,14 @@ passing_put p x (y ∷ ys) s = go (row_before x y) refl (passing_put p x ys s.1)
         at row (inl f) = ap (row_before x) f ∙ e
         at row (inr h) = still_before x y row e (all_has (NotAfter y) row ys s.0 h)
 
-    later : row_before x y ≡ false → (c d : Bool) → cond c (y ∷ cond d (put_row x (filter p ys)) (filter p ys)) (cond d (put_row x (filter p ys)) (filter p ys)) ≡ cond d (put_row x (cond c (y ∷ filter p ys) (filter p ys))) (cond c (y ∷ filter p ys) (filter p ys))
+    later : row_before x y ≡ false → (c d : Bool) → cond c (y ∷ cond d (put_row x (filter p ys)) (filter p ys)) (cond d (put_row x (filter p ys)) (filter p ys))
+        ≡ cond d (put_row x (cond c (y ∷ filter p ys) (filter p ys))) (cond c (y ∷ filter p ys) (filter p ys))
     later e true true = sym (cond-false (row_before x y) (x ∷ y ∷ filter p ys) (y ∷ put_row x (filter p ys)) e)
     later e true false = refl
     later e false d = refl
 
-    go : (b : Bool) → row_before x y ≡ b → filter p (put_row x ys) ≡ cond (p x) (put_row x (filter p ys)) (filter p ys) → filter p (cond b (x ∷ y ∷ ys) (y ∷ put_row x ys)) ≡ cond (p x) (put_row x (filter p (y ∷ ys))) (filter p (y ∷ ys))
+    go : (b : Bool) → row_before x y ≡ b → filter p (put_row x ys) ≡ cond (p x) (put_row x (filter p ys)) (filter p ys)
+        → filter p (cond b (x ∷ y ∷ ys) (y ∷ put_row x ys)) ≡ cond (p x) (put_row x (filter p (y ∷ ys))) (filter p (y ∷ ys))
     go true e ih = ap (λ rows. cond (p x) rows (filter p (y ∷ ys))) (sym (put_first x (filter p (y ∷ ys)) (before e)))
     go false e ih = ap (λ rows. cond (p y) (y ∷ rows) rows) ih ∙ later e (p y) (p x)
 

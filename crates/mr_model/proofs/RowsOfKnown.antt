@@ -16,12 +16,14 @@ use Rattle.mr_model.proofs.ErrorsTell.{sorted_map}
 
 -- ---- rows of tables, and lists in key order by their members
 
-kept_rows : {R : Type 0} (r : Replica) (f : Write → R) (row : R) → IsReplica r → Has row (map f (filter (λ u. not (is_dropped r (id_of u))) (by_id r.known))) ↔ ((w : Write) × Has w r.known × (is_dropped r (id_of w) ≡ false) × (row ≡ f w))
+kept_rows : {R : Type 0} (r : Replica) (f : Write → R) (row : R) → IsReplica r
+    → Has row (map f (filter (λ u. not (is_dropped r (id_of u))) (by_id r.known))) ↔ ((w : Write) × Has w r.known × (is_dropped r (id_of w) ≡ false) × (row ≡ f w))
 kept_rows r f row h = (
   (λ a. let (w, b, e) = map_has f row (filter (λ u. not (is_dropped r (id_of u))) (by_id r.known)) a in
       let p = filter_has (λ u. not (is_dropped r (id_of u))) w (by_id r.known) b in
       (w, by_id_has r w p.0, not-true (is_dropped r (id_of w)) p.1, e)),
-  (λ (w, a, d, e). subst (λ x. Has x (map f (filter (λ u. not (is_dropped r (id_of u))) (by_id r.known)))) (sym e) (has_map f w (filter (λ u. not (is_dropped r (id_of u))) (by_id r.known)) (has_filter (λ u. not (is_dropped r (id_of u))) w (by_id r.known) (ap not d) (has_by_id r w h a)))),
+  (λ (w, a, d, e). subst (λ x. Has x (map f (filter (λ u. not (is_dropped r (id_of u))) (by_id r.known)))) (sym e)
+      (has_map f w (filter (λ u. not (is_dropped r (id_of u))) (by_id r.known)) (has_filter (λ u. not (is_dropped r (id_of u))) w (by_id r.known) (ap not d) (has_by_id r w h a)))),
 )
 
 told_rows : {R : Type 0} (r : Replica) (f : Write → Option R) (row : R) → IsReplica r → Has row (filter_map f (by_id r.known)) ↔ ((w : Write) × Has w r.known × (f w ≡ Some row))
@@ -47,7 +49,8 @@ vector_rows r row h = (there, back)
         let b = counted_server r row.server h p.0 in
         let top : row.server ≤ 99 = b.1 in
         has_flat (vector_row r) row row.server (numbers_on 1 99) (has_numbers row.server 1 99 b.0 (omega (arith, top)))
-        (subst (λ rows. Has row rows) (sym (cond-false (eqb (count_of r row.server) 0) [] (vector_entry r row.server ∷ []) (false_from_ne_true (eqb (count_of r row.server) 0) (λ z. p.0 (eqb-true (count_of r row.server) 0 z))))) (inl p.1))
+        (subst (λ rows. Has row rows) (sym (cond-false (eqb (count_of r row.server) 0) [] (vector_entry r row.server ∷ [])
+        (false_from_ne_true (eqb (count_of r row.server) 0) (λ z. p.0 (eqb-true (count_of r row.server) 0 z))))) (inl p.1))
 
 -- the rows of tables are those of the known writes
 pub rows_of_known : (r : Replica) → IsReplica r → HasRowsOfKnown r

@@ -112,7 +112,8 @@ or_swap false b c = refl
 any-put : (p : Row → Bool) (b : Rows) (i : Id) (row : Row) → lookup (at i) b ≡ None → list_any p (values_of (insert_entry id_cmp b i row)) ≡ (p row || list_any p (values_of b))
 any-put p [] i row absent = refl
 any-put p (e ∷ es) i row absent =
-    elim (id_cmp i e.0) as (λ o. cond (is_eq o) (Some e.1) (lookup (at i) es) ≡ None → list_any p (values_of (match_ordering o ((i, row) ∷ e ∷ es) ((e.0, row) ∷ es) (e ∷ insert_entry id_cmp es i row))) ≡ (p row || (p e.1 || list_any p (values_of es)))) [
+    elim (id_cmp i e.0) as (λ o. cond (is_eq o) (Some e.1) (lookup (at i) es) ≡ None
+    → list_any p (values_of (match_ordering o ((i, row) ∷ e ∷ es) ((e.0, row) ∷ es) (e ∷ insert_entry id_cmp es i row))) ≡ (p row || (p e.1 || list_any p (values_of es)))) [
       | Less ↦ λ _. refl
       | Equal ↦ λ h. cc
       | Greater ↦ λ h. ap (λ t. p e.1 || t) (any-put p es i row h) ∙ or_swap (p e.1) (p row) (list_any p (values_of es))
