@@ -1,6 +1,6 @@
 -- The log of a replica has the writes that are not dropped: of each server its last ones.
 use Rattle.std.proofs.Common.{◌≡◌, length-drop, refl, sym, ap, ◌∙◌, subst, ℕ, zero, suc, ◌+◌, ◌-◌, ◌<◌, ◌≤◌, min, Bool, true, false, not}
-use Rattle.std.proofs.Common.{◌&&◌, ◌||◌, eqb, ◌∷◌, ◌++◌, length, map, take, drop, ◌⊎◌, inl, inr, arith, eqb-true, eq-eqb, length-append}
+use Rattle.std.proofs.Common.{◌&&◌, ◌||◌, eqb, ◌++◌, length, map, take, drop, ◌⊎◌, inl, inr, arith, eqb-true, eq-eqb, length-append}
 use Rattle.std.proofs.lemmas.Bool.{and_from, and_parts, true≢false, cases_eq, cond-true, cond-false, false_from_ne_true, not-true, or_left, or_right}
 use Rattle.std.proofs.lemmas.List.{length-map, length-take-le}
 use Rattle.std.proofs.lemmas.List.Elements.{filter-append}

@@ -1,5 +1,5 @@
 -- The rows of a replica's bookings and logged requests end on their day, and not before they begin.
-use Rattle.std.proofs.Common.{◌≡◌, refl, sym, ap, ◌∙◌, subst, ◌+◌, ◌≤◌, Bool, true, ◌&&◌, leb, ltb, ◌∷◌, length, inl, Option, Some, None, arith, leb-true, lt-ltb}
+use Rattle.std.proofs.Common.{◌≡◌, refl, sym, ap, ◌∙◌, subst, ◌+◌, ◌≤◌, Bool, true, ◌&&◌, leb, ltb, length, inl, Option, Some, None, arith, leb-true, lt-ltb}
 use Rattle.std.proofs.lemmas.Bool.{and_parts}
 use Rattle.std.specs.List.{list_all, slice_get}
 use Rattle.mr_model.specs.Dropped.{Has}

@@ -14,7 +14,8 @@ use Rattle.mr_model.specs.Step.{After, Receive, Commit, step, items_for, batch_o
 use Rattle.mr_model.specs.World.{World, Step, Make, Deliver, Do, StepReply, Made, Said, WorldAfter, replica_of, make_for, with_made, deliver_to, batch_numbered, world_step, do_at, with_after}
 use Rattle.mr_model.specs.Honest.{accepted, commit_list, OnePrimary, IsHonestItem, IsHonest, IsWorldStep, ended, stepped}
 use Rattle.mr_model.specs.WorldLaws.{IsDelivery, IsComplete, IsCountOrGap, count, gap}
-use Rattle.mr_convergence.specs.Convergence.{AcceptsNothing, IsQuiet, IsRunOf, IsQuietRun, IsThere, IsHandedOn, kept, handed, EachHandedToEach, IsDone, made, took, AsksFor, IsSmooth, IsSettling}
+use Rattle.mr_convergence.specs.Convergence.{AcceptsNothing, IsQuietStep, IsRunOf, IsQuietRun, IsThere, IsHandedOn, kept, handed}
+use Rattle.mr_convergence.specs.Convergence.{EachHandedToEach, IsMadeOrTaken, made, took, AsksForLines, IsSmooth, IsSettling}
 use Rattle.mr_model.proofs.OrderedSets.{all_map}
 use Rattle.mr_model.proofs.Fronts.{front_length, get_end, get-map, all_get, find_passes}
 use Rattle.mr_model.proofs.BatchesReadBack.{read-text, read_reads}
@@ -110,11 +111,11 @@ smoothly_trans lines a b c f g =
         steps = f.quiet.steps ++ g.quiet.steps;
         replies = f.quiet.replies ++ g.quiet.replies;
         run = run_append f.quiet.run g.quiet.run;
-        all_allowed = all_append IsQuiet f.quiet.steps g.quiet.steps f.quiet.all_allowed g.quiet.all_allowed;
+        all_allowed = all_append IsQuietStep f.quiet.steps g.quiet.steps f.quiet.all_allowed g.quiet.all_allowed;
       };
       smooth = record {
-        asks = all_append (AsksFor lines) f.quiet.steps g.quiet.steps f.smooth.asks g.smooth.asks;
-        done = all_append IsDone f.quiet.replies g.quiet.replies f.smooth.done g.smooth.done;
+        asks = all_append (AsksForLines lines) f.quiet.steps g.quiet.steps f.smooth.asks g.smooth.asks;
+        done = all_append IsMadeOrTaken f.quiet.replies g.quiet.replies f.smooth.done g.smooth.done;
       };
       there = λ s x. f.there s (g.there s x);
     }
@@ -188,11 +189,11 @@ module _ (w : World) (f t : ℕ) (a b : Replica) (h : IsHonest w) (ea : replica_
   abbrev whole : IsDelivery w one one two f t number (length text) reply
   whole = record { max_lines = m; making = making; steps = []; replies = []; others = ended; bytes = length text; delivery = delivery }
 
-  taken : IsDone reply
+  taken : IsMadeOrTaken reply
   taken = go (front_is_taken w one one two f t number (length text) reply h whole)
     where
-      go : ((writes : ℕ) × (commits : ℕ) × (reply ≡ Said (Took writes commits))) ⊎ (reply ≡ Said (Refused OutOfMemory)) → IsDone reply
-      go (inl (writes, commits, e)) = subst IsDone (sym e) (took writes commits)
+      go : ((writes : ℕ) × (commits : ℕ) × (reply ≡ Said (Took writes commits))) ⊎ (reply ≡ Said (Refused OutOfMemory)) → IsMadeOrTaken reply
+      go (inl (writes, commits, e)) = subst IsMadeOrTaken (sym e) (took writes commits)
       go (inr e) = absurd (not_refused e)
 
   two_is : two ≡ put one received
@@ -473,7 +474,7 @@ convergence_possible old lines h low = go (one_less lines low) (primary_there ol
 
 -- a quiet run accepts nothing
 abbrev accepting_nothing : (a b : World) → IsQuietRun a b → IsRunOf AcceptsNothing a b
-accepting_nothing a b c = record { steps = c.steps; replies = c.replies; run = c.run; all_allowed = all_map IsQuiet AcceptsNothing quiet_accepts c.steps c.all_allowed }
+accepting_nothing a b c = record { steps = c.steps; replies = c.replies; run = c.run; all_allowed = all_map IsQuietStep AcceptsNothing quiet_accepts c.steps c.all_allowed }
 
 pub settlement_possible : (old : World) (lines server : ℕ) → IsHonest old → 1 ≤ lines → IsThere old server
     → (one : World) × (two : World) × (new : World) × (x : IsSettling old one two new) × IsSmooth lines x.gathered × IsSmooth lines x.spread

@@ -13,7 +13,7 @@ use Rattle.mr_model.specs.Step.{Command, AddRoom, Submit, Cancel, Receive, Commi
 use Rattle.mr_model.specs.World.{World, Step, Add, Do, Make, Deliver, StepReply, WorldAfter, replica_of, primary_among}
 use Rattle.mr_model.specs.World.{put_replica, add_replica, do_at, make_for, with_made, deliver_to, batch_numbered, world_step}
 use Rattle.mr_model.specs.Honest.{own_writes, accepted, commits_among, commit_list, OnePrimary, IsHonest, IsLocal, IsWorldCommand, IsWorldStep, IsWorldRun, ended, stepped}
-use Rattle.mr_convergence.specs.Convergence.{AcceptsNothing, IsQuiet, IsQuietRun}
+use Rattle.mr_convergence.specs.Convergence.{AcceptsNothing, IsQuietStep, IsQuietRun}
 use Rattle.mr_model.proofs.Histories.{Agrees}
 use Rattle.mr_model.proofs.DeliverySteps.{delivered, text_numbered}
 use Rattle.mr_model.proofs.WorldFacts.{found_server, first_or, agrees_of, found_put, others_put}
@@ -125,16 +125,16 @@ more_commits (p ∷ rs) server primary = refl
 abbrev pub IsCalm : World → Step → Type 0
 IsCalm w s = (server k : ℕ) (r : Replica) → s ≡ Do server (Commit k) → replica_of w server ≡ Some r → r.server ≡ r.primary → tentative r ≡ []
 
-pub quiet_calm : (w : World) (s : Step) → IsQuiet s → IsCalm w s
-quiet_calm w s quiet server k r e f own = absurd (subst IsQuiet e quiet)
+pub quiet_calm : (w : World) (s : Step) → IsQuietStep s → IsCalm w s
+quiet_calm w s quiet server k r e f own = absurd (subst IsQuietStep e quiet)
 
-pub quiet_accepts : (s : Step) → IsQuiet s → AcceptsNothing s
+pub quiet_accepts : (s : Step) → IsQuietStep s → AcceptsNothing s
 quiet_accepts (Add server) quiet = quiet
 quiet_accepts (Make from to m) quiet = quiet
 quiet_accepts (Deliver number to bytes) quiet = quiet
 quiet_accepts (Do server c) quiet = of c quiet
   where
-    of : (d : Command) → IsQuiet (Do server d) → AcceptsNothing (Do server d)
+    of : (d : Command) → IsQuietStep (Do server d) → AcceptsNothing (Do server d)
     of (AddRoom room) quiet = quiet
     of (Submit s) quiet = quiet
     of (Cancel room id) quiet = quiet
@@ -223,7 +223,7 @@ same_trans a b c f g = record { accepts = λ s. g.accepts s ∙ f.accepts s; com
 pub calm_same : (old new : World) (s : Step) (reply : StepReply) → IsHonest old → AcceptsNothing s → IsCalm old s → IsWorldStep old s reply new → Same old new
 calm_same old new s reply h none calm st = let x = step_leaves old new s reply h none st in record { accepts = x.accepts; commits = x.commits calm }
 
-quiet_run_same : {old new : World} {ss : List Step} {replies : List StepReply} → IsHonest old → IsWorldRun old ss replies new → AllByRecursion IsQuiet ss → Same old new
+quiet_run_same : {old new : World} {ss : List Step} {replies : List StepReply} → IsHonest old → IsWorldRun old ss replies new → AllByRecursion IsQuietStep ss → Same old new
 quiet_run_same {old = old} h ended all = same_refl old
 quiet_run_same h (stepped {old = a} {middle = m} {new = b} {s = s} {ss = ss} {reply = r} {replies = rs} st rest) all =
     same_trans a m b (calm_same a m s r h (quiet_accepts s all.0) (quiet_calm a s all.0) st) (quiet_run_same (step_kept a m s r h st).0 rest all.1)

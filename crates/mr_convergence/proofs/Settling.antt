@@ -14,7 +14,7 @@ use Rattle.mr_model.specs.Step.{After, Commit, step, step_unless}
 use Rattle.mr_model.specs.World.{World, Step, Do, StepReply, Said, WorldAfter, replica_of, do_at, with_after}
 use Rattle.mr_model.specs.Honest.{accepted, commit_list, IsHonest, IsHonestReplica, IsWorldStep, IsWorldRun, ended, stepped}
 use Rattle.mr_model.specs.WorldLaws.{HasAllOf}
-use Rattle.mr_convergence.specs.Convergence.{AcceptsNothing, IsRunOf, KnowsAll, AreAlike, IsSettled, IsSettling}
+use Rattle.mr_convergence.specs.Convergence.{AcceptsNothing, IsRunOf, KnowsAll, AreAlike, HasAllCommitted, IsSettling}
 use Rattle.mr_model.proofs.Fronts.{front_equal, front_length, find_passes, all_get, contains_get}
 use Rattle.mr_model.proofs.BatchItems.{get_filter}
 use Rattle.mr_model.proofs.CommittedPlaces.{committed_part}
@@ -47,7 +47,7 @@ tell-marks [] h = tt
 tell-marks (p ∷ ps) h =
     ((h.0, λ c e. let (k, at) = (find_passes (λ (x : Placed). cancels_it (id_of p.write) x.write.action x.place) ps c e).1 in all_get (λ x. x.is_committed ≡ true) ps k c h.1 at), tell-marks ps h.1)
 
-pub settled_by : (r : Replica) → tentative r ≡ [] → IsSettled r
+pub settled_by : (r : Replica) → tentative r ≡ [] → HasAllCommitted r
 settled_by r none =
     record {
       none_tentative = none;
@@ -196,11 +196,11 @@ module _ (old one two new : World) (h : IsHonest old) (x : IsSettling old one tw
   none_left : (t : ℕ) (r : Replica) → replica_of new t ≡ Some r → tentative r ≡ []
   none_left t r e = let c = after.1 in same_tentative c.replica r (settled_alike c.primary t c.replica r c.is_there e) ∙ c.none_tentative
 
-  pub settles : (t : ℕ) (r : Replica) → replica_of new t ≡ Some r → IsSettled r × KnowsAll new r
+  pub settles : (t : ℕ) (r : Replica) → replica_of new t ≡ Some r → HasAllCommitted r × KnowsAll new r
   settles t r e = (settled_by r (none_left t r e), all_known t r e)
 
   pub settled_stay : (later : World) (s : ℕ) (a b : Replica) → IsRunOf AcceptsNothing new later
-      → replica_of new s ≡ Some a → replica_of later s ≡ Some b → IsSettled b × KnowsAll later b × AreAlike a b
+      → replica_of new s ≡ Some a → replica_of later s ≡ Some b → HasAllCommitted b × KnowsAll later b × AreAlike a b
   settled_stay later s a b c ea eb =
       let same = (committed_stays new later honest_new after.1 c).0 in
       let (all, like) = same_stays new later s a b honest_new (all_kept new later honest_new c) same ea eb (all_known s a ea) in

@@ -1,5 +1,5 @@
 -- Laws of lists that many files use: what a filter leaves, and where an element stands.
-use Rattle.std.proofs.Common.{◌≡◌, refl, sym, ap, ◌∙◌, ℕ, zero, suc, Bool, true, false, cond, List, [], ◌∷◌, map, take, inl, inr, Option, Some}
+use Rattle.std.proofs.Common.{◌≡◌, refl, sym, ap, ◌∙◌, ℕ, zero, suc, Bool, true, false, cond, List, [], ◌∷◌, map, take, inl, inr, Some}
 use Rattle.std.proofs.lemmas.Bool.{and_parts, cond-true, cond-false}
 use Rattle.std.specs.List.{filter, list_all, slice_get}
 use Rattle.mr_model.specs.Dropped.{Has}

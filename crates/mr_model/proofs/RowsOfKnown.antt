@@ -64,7 +64,7 @@ rows_of_known r h =
       cancels = λ row. told_rows r (cancel_row r) row h;
     }
 
-id_irreflexive : (a : Id) → IdBefore a a → ⊥
+pub id_irreflexive : (a : Id) → IdBefore a a → ⊥
 id_irreflexive a (inl l) = omega (arith, l)
 id_irreflexive a (inr p) = omega (arith, p.1)
 

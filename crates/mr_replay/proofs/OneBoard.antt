@@ -19,7 +19,7 @@ below : (k : Id) (es : Rows) → AllByRecursion (λ y. id_cmp k y ≡ Less) (key
 below k [] h = tt
 below k (e ∷ es) h = subst (λ o. T (is_lt o && below_all id_cmp k es)) (sym h.0) (below k es h.1)
 
-both_hold : (a b : Bool) → T a → T b → T (a && b)
+pub both_hold : (a b : Bool) → T a → T b → T (a && b)
 both_hold true b p q = q
 both_hold false b p q = absurd p
 

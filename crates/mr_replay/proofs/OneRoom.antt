@@ -274,7 +274,7 @@ row-other room w p e = go (trace_for w w.action p None)
     go (Some k) = ap (λ t. cond t (Some (record { room = w.room; trace = k })) None) e
 
 -- a row of one room is of no other
-if_of-apart : (room other : Text) (o : Option Row) (row : Row) → if_of room o ≡ Some row → bytes_eq other room ≡ false → if_of other o ≡ None
+pub if_of-apart : (room other : Text) (o : Option Row) (row : Row) → if_of room o ≡ Some row → bytes_eq other room ≡ false → if_of other o ≡ None
 if_of-apart room other None row h e = refl
 if_of-apart room other (Some r) row h e = go (bytes_eq r.room room) refl h
   where
@@ -336,7 +336,7 @@ not_there room b i q o none gone = go (same_id q i) refl
     go true e = none ∙ sym (ap (λ j. if_of room (row_at b j)) (same_id-true q i e) ∙ gone)
     go false e = refl
 
-apart_names : (room other : Text) → bytes_eq room other ≡ false → bytes_eq other room ≡ false
+pub apart_names : (room other : Text) → bytes_eq room other ≡ false → bytes_eq other room ≡ false
 apart_names room other e = false_from_ne_true (bytes_eq other room) (λ s. true≢false (sym (same_name room other (sym (one_name other room s))) ∙ e))
 
 pub other-executed : (room : Text) (b : Rows) (w : Write) → bytes_eq w.room room ≡ false → IsInOrder b

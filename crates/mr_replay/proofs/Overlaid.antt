@@ -104,7 +104,7 @@ module _ (base own : Rows) (old new : BTreeSet Id) (i : Id) (can : CanOverlay ba
 
 -- ---- whether some row passes a test
 
-or_swap : (a b c : Bool) → (a || (b || c)) ≡ (b || (a || c))
+pub or_swap : (a b c : Bool) → (a || (b || c)) ≡ (b || (a || c))
 or_swap true true c = refl
 or_swap true false c = refl
 or_swap false b c = refl

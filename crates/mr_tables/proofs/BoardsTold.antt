@@ -88,7 +88,7 @@ pub entries-append : (xs ys : List (Id × Row)) (b : Rows) → put_entries (xs +
 entries-append [] ys b = refl
 entries-append (x ∷ xs) ys b = entries-append xs ys (insert_entry id_cmp b x.0 x.1)
 
-board-entries : (t : Tables) → put_entries (all_entries t) [] ≡ board_of t
+pub board-entries : (t : Tables) → put_entries (all_entries t) [] ≡ board_of t
 board-entries t =
     let bs = map booking_entry t.booking in
     let es = map error_entry t.errorlog in

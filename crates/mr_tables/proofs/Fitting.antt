@@ -1,5 +1,5 @@
 -- The choices of a meeting end on their day.
-use Rattle.std.proofs.Common.{◌≡◌, ℕ, ◌+◌, ◌≤◌, ◌&&◌, true, ◌∷◌, Option, Some, None, IfSome, IsTrue, sym, ◌∙◌, leb-true}
+use Rattle.std.proofs.Common.{◌≡◌, ℕ, ◌+◌, ◌≤◌, ◌&&◌, true, Option, Some, None, IfSome, IsTrue, sym, leb-true}
 use Rattle.std.specs.List.{list_all, slice_get}
 use Rattle.std.proofs.lemmas.Bool.{and_parts}
 use Rattle.mr_model.specs.Slots.{Slot, is_slot}
