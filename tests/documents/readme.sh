@@ -53,6 +53,8 @@ run_readme() {
     fi
     python3 -B tests/documents/counted.py 2>&1 | tee "$scratch/out"
     count_of 'tests/documents/counted.py' "$scratch/out"
+    python3 -B tests/documents/stated_once.py 2>&1 | tee "$scratch/out"
+    count_of 'tests/documents/stated_once.py' "$scratch/out"
     mkdir "$scratch/operating"
     python3 -B tests/documents/documents.py "$program" "$scratch/operating" 2>&1 | tee "$scratch/out"
     count_of 'tests/documents/documents.py' "$scratch/out"

@@ -1,11 +1,11 @@
 -- The bookings of a room in a replica's tables do not overlap, and each that was cancelled has its cancel.
-use Rattle.std.proofs.Common.{◌≡◌, refl, sym, ap, ◌∙◌, subst, ℕ, ◌-◌, true, not, List, [], ◌∷◌, map, inl, inr, arith}
+use Rattle.std.proofs.Common.{◌≡◌, refl, sym, ap, ◌∙◌, subst, ◌-◌, true, not, List, [], ◌∷◌, map, inl, inr, arith}
 use Rattle.std.proofs.lemmas.Bool.{and_from, and_parts, false_from_ne_true}
 use Rattle.std.specs.List.{list_all}
 use Rattle.std.specs.Str.{bytes_eq}
 use Rattle.std.proofs.lemmas.Slice.Eq.{bytes_eq-Decides}
 use Rattle.mr_model.specs.Dropped.{Has}
-use Rattle.mr_model.specs.Slots.{Slot, Overlap, overlaps}
+use Rattle.mr_model.specs.Slots.{Overlap, overlaps}
 use Rattle.mr_model.specs.Writes.{Id}
 use Rattle.mr_model.specs.Replay.{Booking}
 use Rattle.mr_model.specs.Replica.{Replica, IsReplica, order_of}
@@ -19,19 +19,17 @@ use Rattle.mr_model.specs.Changes.{IdBefore, RiseById}
 use Rattle.mr_agree.specs.Agreeing.{do_rows_overlap, are_rows_apart}
 use Rattle.mr_model.proofs.Members.{all_has, has_map}
 use Rattle.mr_model.proofs.SlotTests.{overlaps-true}
-use Rattle.mr_model.proofs.CalendarsShow.{apart_after}
+use Rattle.mr_model.proofs.CalendarsShow.{apart_after, overlap_turned}
 use Rattle.mr_model.proofs.KeyOrder.{tables_in_order}
 use Rattle.mr_model.proofs.BookedRows.{stands_booked, row_stands}
 use Rattle.mr_agree.proofs.AgreeCounts.{all_true}
-
-turned : (a : Slot) (m : ℕ) (b : Slot) (n : ℕ) → Overlap a m b n → Overlap b n a m
-turned a m b n (day, minute, x, y) = (day, minute, y, x)
 
 two_apart : (bs : List Booking) (x y : Booking) → AreApart bs → Has x bs → Has y bs → (x.id ≡ y.id → ⊥) → Overlap x.slot x.length y.slot y.length → ⊥
 two_apart [] x y p a b ne o = absurd a
 two_apart (c ∷ bs) x y p (inl e) (inl f) ne o = ne (ap (λ (z : Booking). z.id) (e ∙ sym f))
 two_apart (c ∷ bs) x y p (inl e) (inr b) ne o = all_has (λ z. ¬ (Overlap c.slot c.length z.slot z.length)) y bs p.0 b (subst (λ (z : Booking). Overlap z.slot z.length y.slot y.length) e o)
-two_apart (c ∷ bs) x y p (inr a) (inl f) ne o = all_has (λ z. ¬ (Overlap c.slot c.length z.slot z.length)) x bs p.0 a (subst (λ (z : Booking). Overlap z.slot z.length x.slot x.length) f (turned x.slot x.length y.slot y.length o))
+two_apart (c ∷ bs) x y p (inr a) (inl f) ne o = all_has (λ z. ¬ (Overlap c.slot c.length z.slot z.length)) x bs p.0 a
+    (subst (λ (z : Booking). Overlap z.slot z.length x.slot x.length) f (overlap_turned x.slot x.length y.slot y.length o))
 two_apart (c ∷ bs) x y p (inr a) (inr b) ne o = two_apart bs x y p.1 a b ne o
 
 -- the booking of a row stands at the end of its room's list
@@ -58,5 +56,6 @@ bookings_agree r h = go (tables_of r).booking (tables_in_order r h).booking (λ 
     go (x ∷ rows) s f =
         and_from (list_all (λ y. not (do_rows_overlap x y)) rows) (are_rows_apart rows)
         (all_true (λ y. not (do_rows_overlap x y)) rows
-        (λ y g. ap not (false_from_ne_true (do_rows_overlap x y) (two_rows_apart r x y h (f x (inl refl)) (f y (inr g)) (before_not (booking_id x) (booking_id y) (all_has (IdBefore (booking_id x)) (booking_id y) (map booking_id rows) s.0 (has_map booking_id y rows g)))))))
+        (λ y g. ap not (false_from_ne_true (do_rows_overlap x y) (two_rows_apart r x y h (f x (inl refl)) (f y (inr g))
+        (before_not (booking_id x) (booking_id y) (all_has (IdBefore (booking_id x)) (booking_id y) (map booking_id rows) s.0 (has_map booking_id y rows g)))))))
         (go rows s.1 (λ y g. f y (inr g)))

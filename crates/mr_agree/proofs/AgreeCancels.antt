@@ -148,7 +148,8 @@ cancelled_has r row h g =
     let (t, i, e) = known_told r w h a in
     go w.room t i (ap (place_row r) e ∙ made) t.cancelled_by refl (case_of r w.room t (told_of_room r w.room t h i))
   where
-    go : (room : Text) (t : Told) → Has t (room_list r room) → place_row r t.write ≡ Cancelled row → (o : Option Placed) → t.cancelled_by ≡ o → Case r t → list_any (λ c. is_taken_by c row) (tables_of r).cancels ≡ true
+    go : (room : Text) (t : Told) → Has t (room_list r room) → place_row r t.write ≡ Cancelled row → (o : Option Placed)
+        → t.cancelled_by ≡ o → Case r t → list_any (λ c. is_taken_by c row) (tables_of r).cancels ≡ true
     go room t i made (Some p) e k =
         let x = pair_of r room t p h i e in
         let same : x.gone_row ≡ row = some_inj x.gone_row row (ap as_cancelled (sym x.is_gone ∙ made)) in
@@ -165,7 +166,8 @@ done_has r c h g d =
     let (t, i, e) = known_told r w h a in
     go w.room t i (ap (place_row r) e ∙ made) (case_of r w.room t (told_of_room r w.room t h i))
   where
-    found : (room : Text) (t : Told) (x : Id) → Has t (room_list r room) → place_row r t.write ≡ Cancel c → TookBack x [] (room_places r room) (placed_of t) → list_any (is_taken_by c) (tables_of r).cancelled ≡ true
+    found : (room : Text) (t : Told) (x : Id) → Has t (room_list r room) → place_row r t.write ≡ Cancel c
+        → TookBack x [] (room_places r room) (placed_of t) → list_any (is_taken_by c) (tables_of r).cancelled ≡ true
     found room t x i made (earlier b k s n) = absurd k
     found room t x i made (told u k s n) =
         let y = pair_of r room u (placed_of t) h k n in
@@ -182,7 +184,8 @@ done_has r c h g d =
 
 pub cancels_agree : (r : Replica) → IsReplica r → do_cancels_agree (tables_of r) ≡ true
 cancels_agree r h =
-    and_from (list_all (λ row. list_any (λ c. is_taken_by c row) (tables_of r).cancels) (tables_of r).cancelled) (list_all (λ c. not c.done || list_any (is_taken_by c) (tables_of r).cancelled) (tables_of r).cancels)
+    and_from (list_all (λ row. list_any (λ c. is_taken_by c row) (tables_of r).cancels) (tables_of r).cancelled)
+    (list_all (λ c. not c.done || list_any (is_taken_by c) (tables_of r).cancelled) (tables_of r).cancels)
     (all_true (λ row. list_any (λ c. is_taken_by c row) (tables_of r).cancels) (tables_of r).cancelled (λ row g. cancelled_has r row h g))
     (all_true (λ (c : CancelRow). not c.done || list_any (is_taken_by c) (tables_of r).cancelled) (tables_of r).cancels (λ c g. each c g c.done refl))
   where

@@ -1,5 +1,6 @@
 -- The rows of a replica's tables agree: meta, the vector, and the rows of what became of writes.
-use Rattle.std.proofs.Common.{◌≡◌, refl, sym, ap, ◌∙◌, subst, ℕ, zero, suc, ◌+◌, ◌<◌, ◌≤◌, Bool, true, false, not, cond, ◌&&◌, ◌||◌, eqb, leb, List, [], ◌∷◌, ◌++◌, length, map, take, drop, ◌⊎◌, inl, inr, Option, Some, None, arith, IsTrue, eqb-true, eq-eqb, ne_eqb, le-leb, leb-true, length-append}
+use Rattle.std.proofs.Common.{◌≡◌, refl, sym, ap, ◌∙◌, subst, ℕ, zero, suc, ◌+◌, ◌<◌, ◌≤◌, Bool, true, false, not, cond, ◌&&◌, ◌||◌, eqb, leb, List, [], ◌∷◌, ◌++◌}
+use Rattle.std.proofs.Common.{length, map, take, drop, ◌⊎◌, inl, inr, Option, Some, None, arith, IsTrue, eqb-true, eq-eqb, ne_eqb, le-leb, leb-true, length-append}
 use Rattle.std.proofs.lemmas.Bool.{and_from, true≢false, cases_eq, cond-true, cond-false, false_from_ne_true}
 use Rattle.std.proofs.lemmas.List.{length-map}
 use Rattle.std.proofs.lemmas.List.Sums.{sum_by-append}
@@ -9,7 +10,8 @@ use Rattle.mr_model.specs.Dropped.{Has}
 use Rattle.mr_model.specs.Texts.{within, numbers_on}
 use Rattle.mr_model.specs.Writes.{Id, Write, id_of}
 use Rattle.mr_model.specs.Replica.{Replica, IsReplica, greatest, last_time, clock_of, count_of, committed_count, commits_of, writes_of, is_among, is_committed}
-use Rattle.mr_model.specs.Tables.{VectorRow, BookingRow, ErrorRow, CancelledRow, CancelRow, PlaceRow, Booked, Erred, Cancelled, Cancel, Tables, by_id, vector_row, as_booking, as_error, as_cancelled, as_cancel, place_row, booking_row, error_row, cancelled_row, cancel_row, tables_of}
+use Rattle.mr_model.specs.Tables.{VectorRow, BookingRow, ErrorRow, CancelledRow, CancelRow, PlaceRow, Booked, Erred, Cancelled, Cancel, Tables, by_id, vector_row}
+use Rattle.mr_model.specs.Tables.{as_booking, as_error, as_cancelled, as_cancel, place_row, booking_row, error_row, cancelled_row, cancel_row, tables_of}
 use Rattle.mr_model.specs.Queries.{booking_id, error_id, cancelled_id, cancel_id, row_id}
 use Rattle.mr_model.specs.Changes.{IdBefore, RiseById}
 use Rattle.mr_agree.specs.Agreeing.{vector_in, is_counted, is_first, same_mark, does_meta_agree, do_counts_agree, row_ids, are_distinct, do_ids_agree}
@@ -105,7 +107,7 @@ below_greatest n [] h = absurd h
 below_greatest n (m ∷ ms) (inl e) = omega (arith, e)
 below_greatest n (m ∷ ms) (inr h) = let l : n ≤ greatest ms = below_greatest n ms h in omega (arith, l)
 
-greatest_below : (g : ℕ) (ns : List ℕ) → ((n : ℕ) → Has n ns → n ≤ g) → greatest ns ≤ g
+pub greatest_below : (g : ℕ) (ns : List ℕ) → ((n : ℕ) → Has n ns → n ≤ g) → greatest ns ≤ g
 greatest_below g [] f = omega arith
 greatest_below g (m ∷ ms) f =
     let first : m ≤ g = f m (inl refl) in
@@ -154,7 +156,8 @@ latest a h = omega (arith, there, back)
         let last : w.stamp.time ≤ last_time a w.stamp.server = late a w b in
         let row = ((rows_of_known a h).vector (vector_entry a w.stamp.server)).1 (known_counts a w b, refl) in
         let in_table : last_time a w.stamp.server ≤ greatest (map (λ (r : VectorRow). r.last_time) (tables_of a).vector) =
-        below_greatest (last_time a w.stamp.server) (map (λ (r : VectorRow). r.last_time) (tables_of a).vector) (has_map (λ (r : VectorRow). r.last_time) (vector_entry a w.stamp.server) (tables_of a).vector row) in
+        below_greatest (last_time a w.stamp.server) (map (λ (r : VectorRow). r.last_time) (tables_of a).vector)
+        (has_map (λ (r : VectorRow). r.last_time) (vector_entry a w.stamp.server) (tables_of a).vector row) in
         omega (arith, e, last, in_table))
 
 abbrev of_servers : List Id → List ℕ → List Id
@@ -193,7 +196,8 @@ counted_once x ids k (suc n) low high = go (cases_eq x.server k) (λ l. counted_
     others : length (of_servers ids (numbers_on k (suc n))) ≡ length (commits_of k ids) + length (of_servers ids (numbers_on (k + 1) n))
     others = length-append (commits_of k ids) (of_servers ids (numbers_on (k + 1) n))
 
-    go : (x.server ≡ k) ⊎ (x.server ≡ k → ⊥) → (k + 1 ≤ x.server → length (of_servers (x ∷ ids) (numbers_on (k + 1) n)) ≡ suc (length (of_servers ids (numbers_on (k + 1) n)))) → length (of_servers (x ∷ ids) (numbers_on k (suc n))) ≡ suc (length (of_servers ids (numbers_on k (suc n))))
+    go : (x.server ≡ k) ⊎ (x.server ≡ k → ⊥) → (k + 1 ≤ x.server → length (of_servers (x ∷ ids) (numbers_on (k + 1) n)) ≡ suc (length (of_servers ids (numbers_on (k + 1) n))))
+        → length (of_servers (x ∷ ids) (numbers_on k (suc n))) ≡ suc (length (of_servers ids (numbers_on k (suc n))))
     go (inl e) ih =
         let here : length (commits_of k (x ∷ ids)) ≡ suc (length (commits_of k ids)) = ap length (cond-true (eqb x.server k) (x ∷ commits_of k ids) (commits_of k ids) (eq-eqb x.server k e)) in
         let rest = missed x ids (k + 1) n (omega (arith, e)) in
@@ -201,7 +205,8 @@ counted_once x ids k (suc n) low high = go (cases_eq x.server k) (λ l. counted_
         let q = others in
         omega (arith, here, rest, p, q)
     go (inr ne) ih =
-        let here : length (commits_of k (x ∷ ids)) ≡ length (commits_of k ids) = ap length (cond-false (eqb x.server k) (x ∷ commits_of k ids) (commits_of k ids) (false_from_ne_true (eqb x.server k) (λ t. ne (eqb-true x.server k t)))) in
+        let here : length (commits_of k (x ∷ ids)) ≡ length (commits_of k ids) =
+        ap length (cond-false (eqb x.server k) (x ∷ commits_of k ids) (commits_of k ids) (false_from_ne_true (eqb x.server k) (λ t. ne (eqb-true x.server k t)))) in
         let rest = ih (omega (arith, low, ne)) in
         let p = parts in
         let q = others in
@@ -263,7 +268,8 @@ pub record IsRowId (r : Replica) (id : Id) : Type 0 where
   pub known : Has write r.known
   pub is_id : id_of write ≡ id
 
-pub of_table : {R : Type 0} (r : Replica) (f : PlaceRow → Option R) (key : R → Id) (make : R → PlaceRow) → IsReplica r → ((row : R) (q : PlaceRow) → f q ≡ Some row → q ≡ make row) → ((row : R) → row_id (make row) ≡ key row)
+pub of_table : {R : Type 0} (r : Replica) (f : PlaceRow → Option R) (key : R → Id) (make : R → PlaceRow) → IsReplica r
+    → ((row : R) (q : PlaceRow) → f q ≡ Some row → q ≡ make row) → ((row : R) → row_id (make row) ≡ key row)
     → (row : R) → Has row (filter_map (λ v. f (place_row r v)) (by_id r.known)) → (w : Write) × Has w r.known × (place_row r w ≡ make row) × (id_of w ≡ key row)
 of_table r f key make h is same row g =
     let (w, known, e) = known_of f r row g in
@@ -331,9 +337,11 @@ two_rows r v w p q i j h a b d e f g s = sym d ∙ ap (place_row r) (one_known r
 
 distinct_rows : (r : Replica) → IsReplica r → Distinct (row_ids (tables_of r))
 distinct_rows r h =
-    distinct_append (map booking_id t.booking) (map error_id t.errorlog ++ (map cancelled_id t.cancelled ++ map cancel_id t.cancels)) (rise_distinct (map booking_id t.booking) (tables_in_order r h).booking)
+    distinct_append (map booking_id t.booking) (map error_id t.errorlog ++ (map cancelled_id t.cancelled ++ map cancel_id t.cancels))
+    (rise_distinct (map booking_id t.booking) (tables_in_order r h).booking)
     (distinct_append (map error_id t.errorlog) (map cancelled_id t.cancelled ++ map cancel_id t.cancels) (rise_distinct (map error_id t.errorlog) (tables_in_order r h).errorlog)
-    (distinct_append (map cancelled_id t.cancelled) (map cancel_id t.cancels) (rise_distinct (map cancelled_id t.cancelled) (tables_in_order r h).cancelled) (rise_distinct (map cancel_id t.cancels) (tables_in_order r h).cancels)
+    (distinct_append (map cancelled_id t.cancelled) (map cancel_id t.cancels) (rise_distinct (map cancelled_id t.cancelled) (tables_in_order r h).cancelled)
+    (rise_distinct (map cancel_id t.cancels) (tables_in_order r h).cancels)
     (λ id a b.
     let (x, k, e) = map_has cancelled_id id t.cancelled a in
     let (y, l, f) = map_has cancel_id id t.cancels b in
@@ -372,7 +380,8 @@ distinct_rows r h =
         let (w, kw, mw, sw) = of_cancel r y h l in
         absurd (let z : Booked x ≡ Cancel y = two_rows r v w (Booked x) (Cancel y) id (cancel_id y) h kv kw mv mw s sw f in cc)
 
-    bookings : (x : BookingRow) (id : Id) (v : Write) → Has v r.known → place_row r v ≡ Booked x → id_of v ≡ id → Has id (map error_id t.errorlog) ⊎ Has id (map cancelled_id t.cancelled ++ map cancel_id t.cancels) → ⊥
+    bookings : (x : BookingRow) (id : Id) (v : Write) → Has v r.known → place_row r v ≡ Booked x → id_of v ≡ id
+        → Has id (map error_id t.errorlog) ⊎ Has id (map cancelled_id t.cancelled ++ map cancel_id t.cancels) → ⊥
     bookings x id v kv mv s (inl b) =
         let (y, l, f) = map_has error_id id t.errorlog b in
         let (w, kw, mw, sw) = of_error r y h l in
@@ -404,7 +413,8 @@ one_more (Erred row) bs es gs cs = omega arith
 one_more (Cancelled row) bs es gs cs = omega arith
 one_more (Cancel row) bs es gs cs = omega arith
 
-one_each : (a : Replica) (ws : List Write) → length (filter_map (booking_row a) ws) + length (filter_map (error_row a) ws) + length (filter_map (cancelled_row a) ws) + length (filter_map (cancel_row a) ws) ≡ length ws
+one_each : (a : Replica) (ws : List Write)
+    → length (filter_map (booking_row a) ws) + length (filter_map (error_row a) ws) + length (filter_map (cancelled_row a) ws) + length (filter_map (cancel_row a) ws) ≡ length ws
 one_each a [] = refl
 one_each a (w ∷ ws) =
     one_more (place_row a w) (filter_map (booking_row a) ws) (filter_map (error_row a) ws) (filter_map (cancelled_row a) ws) (filter_map (cancel_row a) ws)
@@ -426,7 +436,8 @@ all_rows r = go (tables_of r) (one_each r (by_id r.known))
 
 pub ids_agree : (r : Replica) → IsReplica r → do_ids_agree (tables_of r) ≡ true
 ids_agree r h =
-    all_three (list_all (is_counted (tables_of r)) (row_ids (tables_of r))) (are_distinct (row_ids (tables_of r))) (eqb (length (row_ids (tables_of r))) (sum_by (λ (row : VectorRow). row.count) (tables_of r).vector))
+    all_three (list_all (is_counted (tables_of r)) (row_ids (tables_of r))) (are_distinct (row_ids (tables_of r)))
+    (eqb (length (row_ids (tables_of r))) (sum_by (λ (row : VectorRow). row.count) (tables_of r).vector))
     (all_true (is_counted (tables_of r)) (row_ids (tables_of r)) (λ id g. let k = row_id_known r id h g in subst (λ i. is_counted (tables_of r) i ≡ true) k.is_id (counted r k.write h k.known)))
     (distinct_test (row_ids (tables_of r)) (distinct_rows r h))
     (eq-eqb (length (row_ids (tables_of r))) (sum_by (λ (row : VectorRow). row.count) (tables_of r).vector) (all_rows r ∙ sym (total_count r)))

@@ -1,5 +1,6 @@
 -- The log of a replica has the writes that are not dropped: of each server its last ones.
-use Rattle.std.proofs.Common.{◌≡◌, length-drop, refl, sym, ap, ◌∙◌, subst, ℕ, zero, suc, ◌+◌, ◌-◌, ◌<◌, ◌≤◌, min, Bool, true, false, not, ◌&&◌, ◌||◌, eqb, List, [], ◌∷◌, ◌++◌, length, map, take, drop, ◌⊎◌, inl, inr, arith, eqb-true, eq-eqb, length-append}
+use Rattle.std.proofs.Common.{◌≡◌, length-drop, refl, sym, ap, ◌∙◌, subst, ℕ, zero, suc, ◌+◌, ◌-◌, ◌<◌, ◌≤◌, min, Bool, true, false, not}
+use Rattle.std.proofs.Common.{◌&&◌, ◌||◌, eqb, ◌++◌, length, map, take, drop, ◌⊎◌, inl, inr, arith, eqb-true, eq-eqb, length-append}
 use Rattle.std.proofs.lemmas.Bool.{and_from, and_parts, true≢false, cases_eq, cond-true, cond-false, false_from_ne_true, not-true, or_left, or_right}
 use Rattle.std.proofs.lemmas.List.{length-map, length-take-le}
 use Rattle.std.proofs.lemmas.List.Elements.{filter-append}
@@ -21,8 +22,10 @@ use Rattle.mr_model.proofs.RowsTell.{one_row, row_is_in}
 use Rattle.mr_model.proofs.KeyOrder.{tables_in_order}
 use Rattle.mr_model.proofs.TruncateRows.{front-seq}
 use Rattle.mr_model.proofs.Orders.{taken_has}
-use Rattle.mr_agree.proofs.AgreeCounts.{total_count, all_counted, commit_server, all_true, all_three, all_four, same_mark_from, vector-at, known_first, row_id_known, rise_distinct, distinct_test, of_error, of_cancel}
+use Rattle.mr_agree.proofs.AgreeCounts.{total_count, all_counted, commit_server, all_true, all_three, all_four, same_mark_from}
+use Rattle.mr_agree.proofs.AgreeCounts.{vector-at, known_first, row_id_known, rise_distinct, distinct_test, of_error, of_cancel}
 use Rattle.mr_agree.proofs.AgreeMarks.{row_tells}
+use Rattle.mr_model.proofs.Lists.{map-take}
 
 -- ---- ids of rows and of the log
 
@@ -31,14 +34,18 @@ pub known_row_id : (r : Replica) (w : Write) → IsReplica r → Has w r.known �
 known_row_id r w h a = subst (λ i. Has i (row_ids (tables_of r))) (one_row r w h a).1 (go (tables_of r) (place_row r w) (row_is_in r (place_row r w) h w a refl))
   where
     go : (t : Tables) (p : PlaceRow) → IsRowIn t p → Has (row_id p) (row_ids t)
-    go t (Booked row) g = has_left (booking_id row) (map booking_id t.booking) (map error_id t.errorlog ++ (map cancelled_id t.cancelled ++ map cancel_id t.cancels)) (has_map booking_id row t.booking g)
-    go t (Erred row) g = has_right (error_id row) (map booking_id t.booking) (map error_id t.errorlog ++ (map cancelled_id t.cancelled ++ map cancel_id t.cancels)) (has_left (error_id row) (map error_id t.errorlog) (map cancelled_id t.cancelled ++ map cancel_id t.cancels) (has_map error_id row t.errorlog g))
+    go t (Booked row) g =
+        has_left (booking_id row) (map booking_id t.booking) (map error_id t.errorlog ++ (map cancelled_id t.cancelled ++ map cancel_id t.cancels)) (has_map booking_id row t.booking g)
+    go t (Erred row) g = has_right (error_id row) (map booking_id t.booking) (map error_id t.errorlog ++ (map cancelled_id t.cancelled ++ map cancel_id t.cancels))
+        (has_left (error_id row) (map error_id t.errorlog) (map cancelled_id t.cancelled ++ map cancel_id t.cancels) (has_map error_id row t.errorlog g))
     go t (Cancelled row) g =
         has_right (cancelled_id row) (map booking_id t.booking) (map error_id t.errorlog ++ (map cancelled_id t.cancelled ++ map cancel_id t.cancels))
-        (has_right (cancelled_id row) (map error_id t.errorlog) (map cancelled_id t.cancelled ++ map cancel_id t.cancels) (has_left (cancelled_id row) (map cancelled_id t.cancelled) (map cancel_id t.cancels) (has_map cancelled_id row t.cancelled g)))
+        (has_right (cancelled_id row) (map error_id t.errorlog) (map cancelled_id t.cancelled ++ map cancel_id t.cancels)
+        (has_left (cancelled_id row) (map cancelled_id t.cancelled) (map cancel_id t.cancels) (has_map cancelled_id row t.cancelled g)))
     go t (Cancel row) g =
         has_right (cancel_id row) (map booking_id t.booking) (map error_id t.errorlog ++ (map cancelled_id t.cancelled ++ map cancel_id t.cancels))
-        (has_right (cancel_id row) (map error_id t.errorlog) (map cancelled_id t.cancelled ++ map cancel_id t.cancels) (has_right (cancel_id row) (map cancelled_id t.cancelled) (map cancel_id t.cancels) (has_map cancel_id row t.cancels g)))
+        (has_right (cancel_id row) (map error_id t.errorlog) (map cancelled_id t.cancelled ++ map cancel_id t.cancels)
+        (has_right (cancel_id row) (map cancelled_id t.cancelled) (map cancel_id t.cancels) (has_map cancel_id row t.cancels g)))
 
 -- a known write is in the log just where it is not dropped
 pub in-log : (r : Replica) (w : Write) → IsReplica r → Has w r.known → is_in_log (tables_of r) (id_of w) ≡ not (is_dropped r (id_of w))
@@ -62,11 +69,6 @@ log_id_known r id h g =
 
 -- ---- the dropped writes of a server are its first
 
-map-take : {A B : Type 0} (f : A → B) (j : ℕ) (xs : List A) → map f (take j xs) ≡ take j (map f xs)
-map-take f zero xs = refl
-map-take f (suc j) [] = refl
-map-take f (suc j) (x ∷ xs) = ap (λ ys. f x ∷ ys) (map-take f j xs)
-
 -- the first commits have of each server its first writes
 pub commit_front : (r : Replica) (d s : ℕ) → IsReplica r → (m : ℕ) × (map (λ (i : Id). i.n) (commits_of s (take d r.commits)) ≡ numbers_on 1 m) × (m ≤ committed_count r s)
 commit_front r d s h =
@@ -76,11 +78,13 @@ commit_front r d s h =
       omega arith,
     )
 
-pub front-has : (r : Replica) (d s i m : ℕ) → map (λ (x : Id). x.n) (commits_of s (take d r.commits)) ≡ numbers_on 1 m → is_among (record { server = s; n = i }) (take d r.commits) ≡ Rattle.mr_model.proofs.CommitsKeep.has i (numbers_on 1 m)
+pub front-has : (r : Replica) (d s i m : ℕ) → map (λ (x : Id). x.n) (commits_of s (take d r.commits)) ≡ numbers_on 1 m
+    → is_among (record { server = s; n = i }) (take d r.commits) ≡ Rattle.mr_model.proofs.CommitsKeep.has i (numbers_on 1 m)
 front-has r d s i m e = among-has (record { server = s; n = i }) (take d r.commits) ∙ ap (Rattle.mr_model.proofs.CommitsKeep.has i) e
 
 -- so of two writes of a server the earlier is among them where the later is
-pub front_before : (r : Replica) (d s n k : ℕ) → IsReplica r → 1 ≤ n → n ≤ k → is_among (record { server = s; n = k }) (take d r.commits) ≡ true → is_among (record { server = s; n = n }) (take d r.commits) ≡ true
+pub front_before : (r : Replica) (d s n k : ℕ) → IsReplica r → 1 ≤ n → n ≤ k
+    → is_among (record { server = s; n = k }) (take d r.commits) ≡ true → is_among (record { server = s; n = n }) (take d r.commits) ≡ true
 front_before r d s n k h low l x =
     let (m, e, few) = commit_front r d s h in
     front-has r d s n m e ∙ has_within n 1 m low (top m (Rattle.std.proofs.lemmas.Bool.cases_lt m k) (sym (front-has r d s k m e) ∙ x))
@@ -97,7 +101,8 @@ dropped-number r w = front-seq r.dropped r.commits (id_of w)
 
 pub log_agrees : (r : Replica) → IsReplica r → does_log_agree (tables_of r) ≡ true
 log_agrees r h =
-    all_three (are_distinct (log_ids t) && list_all among (log_ids t) && list_all tentative_in (row_ids t) && list_all next_in (log_ids t) && list_all erred t.errorlog) (list_all cancels t.cancels) (list_all logged t.log)
+    all_three (are_distinct (log_ids t) && list_all among (log_ids t) && list_all tentative_in (row_ids t) && list_all next_in (log_ids t) && list_all erred t.errorlog)
+    (list_all cancels t.cancels) (list_all logged t.log)
     (and_from (are_distinct (log_ids t) && list_all among (log_ids t) && list_all tentative_in (row_ids t) && list_all next_in (log_ids t)) (list_all erred t.errorlog)
     (all_four (are_distinct (log_ids t)) (list_all among (log_ids t)) (list_all tentative_in (row_ids t)) (list_all next_in (log_ids t))
     (distinct_test (log_ids t) (rise_distinct (log_ids t) (tables_in_order r h).log))
@@ -143,7 +148,8 @@ log_agrees r h =
         let low : 1 ≤ w.stamp.n = b.0 in
         let high : w.stamp.n ≤ count_of r w.stamp.server = b.1 in
         let (v, j, s) = known_at r (next_id (id_of w)) h (omega arith) (more (cases_eq w.stamp.n (count_of r w.stamp.server)) high) in
-        let stays : is_dropped r (next_id (id_of w)) ≡ false = false_from_ne_true (is_dropped r (next_id (id_of w))) (λ x. true≢false (sym (dropped_before r w.stamp.server w.stamp.n (w.stamp.n + 1) h low (omega arith) x) ∙ d)) in
+        let stays : is_dropped r (next_id (id_of w)) ≡ false =
+        false_from_ne_true (is_dropped r (next_id (id_of w))) (λ x. true≢false (sym (dropped_before r w.stamp.server w.stamp.n (w.stamp.n + 1) h low (omega arith) x) ∙ d)) in
         or_right (is_last t (id_of w)) (is_in_log t (next_id (id_of w))) (ap (is_in_log t) (sym s) ∙ in-log r v h j ∙ ap not (ap (is_dropped r) s ∙ stays))
       where
         more : (w.stamp.n ≡ count_of r w.stamp.server) ⊎ (w.stamp.n ≡ count_of r w.stamp.server → ⊥) → w.stamp.n ≤ count_of r w.stamp.server → w.stamp.n + 1 ≤ count_of r w.stamp.server
@@ -158,7 +164,8 @@ log_agrees r h =
 -- ---- as many as are not dropped
 
 -- of each server's writes all but those dropped are left
-left_of : (r : Replica) (s : ℕ) → IsReplica r → length (filter (λ w. not (is_dropped r (id_of w))) (writes_of s r.known)) + length (commits_of s (take r.dropped r.commits)) ≡ length (writes_of s r.known)
+left_of : (r : Replica) (s : ℕ) → IsReplica r
+    → length (filter (λ w. not (is_dropped r (id_of w))) (writes_of s r.known)) + length (commits_of s (take r.dropped r.commits)) ≡ length (writes_of s r.known)
 left_of r s h =
     let (m, e, few) = commit_front r r.dropped s h in
     let known : committed_count r s ≤ count_of r s = h.commits_known s in
@@ -170,21 +177,25 @@ left_of r s h =
     let all : committed_count r s ≤ length (writes_of s r.known) = known in
     omega (arith, front, same, long, all, few)
   where
-    each : (m : ℕ) → map (λ (i : Id). i.n) (commits_of s (take r.dropped r.commits)) ≡ numbers_on 1 m → (w : Write) → Has w (writes_of s r.known) → (w.stamp.n ≤ m → not (is_dropped r (id_of w)) ≡ false) × (m < w.stamp.n → not (is_dropped r (id_of w)) ≡ true)
+    each : (m : ℕ) → map (λ (i : Id). i.n) (commits_of s (take r.dropped r.commits)) ≡ numbers_on 1 m → (w : Write) → Has w (writes_of s r.known)
+        → (w.stamp.n ≤ m → not (is_dropped r (id_of w)) ≡ false) × (m < w.stamp.n → not (is_dropped r (id_of w)) ≡ true)
     each m e w g =
         let f = filter_has (λ v. eqb v.stamp.server s) w r.known g in
         let own : w.stamp.server ≡ s = eqb-true w.stamp.server s f.1 in
         let low : 1 ≤ w.stamp.n = (known_bounds r w h f.0).0 in
-        let test : is_dropped r (id_of w) ≡ Rattle.mr_model.proofs.CommitsKeep.has w.stamp.n (numbers_on 1 m) = ap (λ x. is_dropped r (record { server = x; n = w.stamp.n })) own ∙ front-has r r.dropped s w.stamp.n m e in
+        let test : is_dropped r (id_of w) ≡ Rattle.mr_model.proofs.CommitsKeep.has w.stamp.n (numbers_on 1 m) =
+        ap (λ x. is_dropped r (record { server = x; n = w.stamp.n })) own ∙ front-has r r.dropped s w.stamp.n m e in
         ((λ l. ap not (test ∙ has_within w.stamp.n 1 m low (omega (arith, l)))), (λ l. ap not (test ∙ has_not w.stamp.n 1 m (omega (arith, l)))))
 
-left_in : (r : Replica) (k n : ℕ) → IsReplica r → length (filter (λ w. not (is_dropped r (id_of w))) (flat_map (λ s. writes_of s r.known) (numbers_on k n))) + length (flat_map (λ s. commits_of s (take r.dropped r.commits)) (numbers_on k n)) ≡ length (flat_map (λ s. writes_of s r.known) (numbers_on k n))
+left_in : (r : Replica) (k n : ℕ) → IsReplica r → length (filter (λ w. not (is_dropped r (id_of w))) (flat_map (λ s. writes_of s r.known) (numbers_on k n)))
+    + length (flat_map (λ s. commits_of s (take r.dropped r.commits)) (numbers_on k n)) ≡ length (flat_map (λ s. writes_of s r.known) (numbers_on k n))
 left_in r k zero h = refl
 left_in r k (suc n) h =
     let here = left_of r k h in
     let rest = left_in r (k + 1) n h in
     let a = ap length (filter-append (λ (w : Write). not (is_dropped r (id_of w))) (writes_of k r.known) (flat_map (λ s. writes_of s r.known) (numbers_on (k + 1) n))) in
-    let b = length-append (filter (λ (w : Write). not (is_dropped r (id_of w))) (writes_of k r.known)) (filter (λ (w : Write). not (is_dropped r (id_of w))) (flat_map (λ s. writes_of s r.known) (numbers_on (k + 1) n))) in
+    let b = length-append (filter (λ (w : Write). not (is_dropped r (id_of w))) (writes_of k r.known))
+    (filter (λ (w : Write). not (is_dropped r (id_of w))) (flat_map (λ s. writes_of s r.known) (numbers_on (k + 1) n))) in
     let c = length-append (commits_of k (take r.dropped r.commits)) (flat_map (λ s. commits_of s (take r.dropped r.commits)) (numbers_on (k + 1) n)) in
     let d = length-append (writes_of k r.known) (flat_map (λ s. writes_of s r.known) (numbers_on (k + 1) n)) in
     omega (arith, here, rest, a, b, c, d)
@@ -192,13 +203,16 @@ left_in r k (suc n) h =
 pub log_whole : (r : Replica) → IsReplica r → is_log_whole (tables_of r) ≡ true
 log_whole r h =
     let all = left_in r 1 99 h in
-    let front : length (flat_map (λ s. commits_of s (take r.dropped r.commits)) (numbers_on 1 99)) ≡ length (take r.dropped r.commits) = all_counted (take r.dropped r.commits) 1 99 (λ x g. commit_server r x h (taken_has r.dropped x r.commits g)) in
+    let front : length (flat_map (λ s. commits_of s (take r.dropped r.commits)) (numbers_on 1 99)) ≡ length (take r.dropped r.commits) =
+    all_counted (take r.dropped r.commits) 1 99 (λ x g. commit_server r x h (taken_has r.dropped x r.commits g)) in
     let few : length (take r.dropped r.commits) ≡ r.dropped = length-take-le r.dropped r.commits h.dropped_committed in
     let rows : length (tables_of r).log ≡ length (kept r) = length-map (kept r) (log_row r) in
     let total = total_count r in
-    eq-eqb (length (tables_of r).log + r.dropped) (sum_by (λ (row : VectorRow). row.count) (tables_of r).vector) (go (length (kept r)) (length (flat_map (λ s. commits_of s (take r.dropped r.commits)) (numbers_on 1 99))) (length (by_id r.known)) all (front ∙ few) rows total)
+    eq-eqb (length (tables_of r).log + r.dropped) (sum_by (λ (row : VectorRow). row.count) (tables_of r).vector)
+    (go (length (kept r)) (length (flat_map (λ s. commits_of s (take r.dropped r.commits)) (numbers_on 1 99))) (length (by_id r.known)) all (front ∙ few) rows total)
   where
-    go : (a b c : ℕ) → a + b ≡ c → b ≡ r.dropped → length (tables_of r).log ≡ a → sum_by (λ (row : VectorRow). row.count) (tables_of r).vector ≡ c → length (tables_of r).log + r.dropped ≡ sum_by (λ (row : VectorRow). row.count) (tables_of r).vector
+    go : (a b c : ℕ) → a + b ≡ c → b ≡ r.dropped → length (tables_of r).log ≡ a → sum_by (λ (row : VectorRow). row.count) (tables_of r).vector ≡ c
+        → length (tables_of r).log + r.dropped ≡ sum_by (λ (row : VectorRow). row.count) (tables_of r).vector
     go a b c p q u v = (λ i. u i + sym q i) ∙ p ∙ sym v
 
 -- no row has the id of a write that is not known, as the next of a server

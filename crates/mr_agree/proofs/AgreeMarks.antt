@@ -1,5 +1,6 @@
 -- Marks, commit numbers and rooms of a replica's rows agree with the vector and with the rooms.
-use Rattle.std.proofs.Common.{◌≡◌, refl, sym, ap, ◌∙◌, subst, ℕ, suc, ◌+◌, ◌≤◌, Bool, true, false, cond, leb, List, [], ◌∷◌, ◌++◌, length, map, ◌⊎◌, inl, inr, Option, Some, None, arith, IsTrue, le-leb}
+use Rattle.std.proofs.Common.{◌≡◌, refl, sym, ap, ◌∙◌, subst, ℕ, suc, ◌+◌, ◌≤◌, Bool, true, false, cond, leb, List}
+use Rattle.std.proofs.Common.{[], ◌∷◌, ◌++◌, length, map, ◌⊎◌, inl, inr, Option, Some, None, arith, IsTrue, le-leb}
 use Rattle.std.proofs.lemmas.Bool.{and_from}
 use Rattle.std.specs.List.{list_all, list_any}
 use Rattle.std.specs.Str.{bytes_eq}
@@ -10,7 +11,8 @@ use Rattle.mr_model.specs.Writes.{Id, Action, Books, Cancels, Write, id_of, same
 use Rattle.mr_model.specs.Replay.{Place, slot_at}
 use Rattle.mr_model.specs.Replica.{Replica, IsReplica, is_committed, knows_room}
 use Rattle.mr_model.specs.View.{place_of, canceller_of}
-use Rattle.mr_model.specs.Tables.{BookingRow, ErrorRow, CancelledRow, CancelRow, LogRow, PlaceRow, Booked, Erred, Cancelled, Cancel, Tables, seq_among, seq_of, booking_place_row, place_row_for, place_row, tables_of}
+use Rattle.mr_model.specs.Tables.{BookingRow, ErrorRow, CancelledRow, CancelRow, LogRow, PlaceRow, Booked, Erred, Cancelled}
+use Rattle.mr_model.specs.Tables.{Cancel, Tables, seq_among, seq_of, booking_place_row, place_row_for, place_row, tables_of}
 use Rattle.mr_model.specs.Queries.{booking_id, error_id, cancelled_id, cancel_id, log_id, row_room, is_marked}
 use Rattle.mr_agree.specs.Agreeing.{is_first, same_mark, does_number_agree, do_marks_agree, row_rooms, do_rooms_agree}
 use Rattle.mr_model.proofs.Members.{has_split, map_has, all_has}
@@ -112,23 +114,27 @@ rooms_agree r h = all_true (λ room. list_any (bytes_eq room) r.rooms) (row_room
             let (w, k, d, s) = ((rows_of_known r h).log row).0 (subst (λ (u : Tables). Has row u.log) same b) in
             here w room k (sym (ap (λ (x : LogRow). x.room) s) ∙ sym e)
 
-        third : Has room (map (λ (row : CancelledRow). row.room) t.cancelled) ⊎ Has room (map (λ (row : CancelRow). row.room) t.cancels ++ map (λ (row : LogRow). row.room) t.log) → knows_room r room ≡ true
+        third : Has room (map (λ (row : CancelledRow). row.room) t.cancelled)
+            ⊎ Has room (map (λ (row : CancelRow). row.room) t.cancels ++ map (λ (row : LogRow). row.room) t.log) → knows_room r room ≡ true
         third (inl a) =
             let (row, b, e) = map_has (λ (x : CancelledRow). x.room) room t.cancelled a in
             let (w, k, made, id) = of_cancelled r row h (subst (λ (u : Tables). Has row u.cancelled) same b) in
             here w room k (of_row w (Cancelled row) k made ∙ sym e)
         third (inr a) = last (has_split room (map (λ (row : CancelRow). row.room) t.cancels) (map (λ (row : LogRow). row.room) t.log) a)
 
-        second : Has room (map (λ (row : ErrorRow). row.room) t.errorlog) ⊎ Has room (map (λ (row : CancelledRow). row.room) t.cancelled ++ (map (λ (row : CancelRow). row.room) t.cancels ++ map (λ (row : LogRow). row.room) t.log)) → knows_room r room ≡ true
+        second : Has room (map (λ (row : ErrorRow). row.room) t.errorlog)
+            ⊎ Has room (map (λ (row : CancelledRow). row.room) t.cancelled ++ (map (λ (row : CancelRow). row.room) t.cancels ++ map (λ (row : LogRow). row.room) t.log)) → knows_room r room ≡ true
         second (inl a) =
             let (row, b, e) = map_has (λ (x : ErrorRow). x.room) room t.errorlog a in
             let (w, k, made, id) = of_error r row h (subst (λ (u : Tables). Has row u.errorlog) same b) in
             here w room k (of_row w (Erred row) k made ∙ sym e)
         second (inr a) = third (has_split room (map (λ (row : CancelledRow). row.room) t.cancelled) (map (λ (row : CancelRow). row.room) t.cancels ++ map (λ (row : LogRow). row.room) t.log) a)
 
-        first : Has room (map (λ (row : BookingRow). row.room) t.booking) ⊎ Has room (map (λ (row : ErrorRow). row.room) t.errorlog ++ (map (λ (row : CancelledRow). row.room) t.cancelled ++ (map (λ (row : CancelRow). row.room) t.cancels ++ map (λ (row : LogRow). row.room) t.log))) → knows_room r room ≡ true
+        first : Has room (map (λ (row : BookingRow). row.room) t.booking) ⊎ Has room (map (λ (row : ErrorRow). row.room) t.errorlog
+            ++ (map (λ (row : CancelledRow). row.room) t.cancelled ++ (map (λ (row : CancelRow). row.room) t.cancels ++ map (λ (row : LogRow). row.room) t.log))) → knows_room r room ≡ true
         first (inl a) =
             let (row, b, e) = map_has (λ (x : BookingRow). x.room) room t.booking a in
             let (w, k, made, id) = of_booking r row h (subst (λ (u : Tables). Has row u.booking) same b) in
             here w room k (of_row w (Booked row) k made ∙ sym e)
-        first (inr a) = second (has_split room (map (λ (row : ErrorRow). row.room) t.errorlog) (map (λ (row : CancelledRow). row.room) t.cancelled ++ (map (λ (row : CancelRow). row.room) t.cancels ++ map (λ (row : LogRow). row.room) t.log)) a)
+        first (inr a) = second (has_split room (map (λ (row : ErrorRow). row.room) t.errorlog)
+            (map (λ (row : CancelledRow). row.room) t.cancelled ++ (map (λ (row : CancelRow). row.room) t.cancels ++ map (λ (row : LogRow). row.room) t.log)) a)

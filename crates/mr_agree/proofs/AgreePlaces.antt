@@ -1,26 +1,28 @@
 -- What became of each write in a replica's log is what its place there tells.
-use Rattle.std.proofs.Common.{◌≡◌, refl, sym, ap, ◌∙◌, subst, ℕ, ◌+◌, ◌*◌, ◌/◌, Bool, true, false, not, cond, ◌&&◌, ◌||◌, eqb, List, [], ◌∷◌, ◌++◌, length, ◌⊎◌, inl, inr, Option, Some, None, arith, append_assoc, length-append, IsTrue, eq-eqb}
-use Rattle.std.proofs.lemmas.Bool.{and_from, and_parts, or_left, or_right}
+use Rattle.std.proofs.Common.{◌≡◌, refl, sym, ap, ◌∙◌, subst, ℕ, ◌+◌, ◌*◌, ◌/◌, Bool, true, false, not, cond, ◌&&◌, ◌||◌, eqb}
+use Rattle.std.proofs.Common.{[], ◌∷◌, ◌++◌, length, ◌⊎◌, inl, inr, Option, Some, None, arith, length-append, IsTrue, eq-eqb}
+use Rattle.std.proofs.lemmas.Bool.{and_from, or_left, or_right}
 use Rattle.std.proofs.lemmas.Slice.Eq.{bytes_eq-Decides}
 use Rattle.std.specs.Prelude.{flat_map}
 use Rattle.std.specs.Str.{bytes_eq}
-use Rattle.std.specs.List.{AllByRecursion, list_all, list_any, slice_get}
+use Rattle.std.specs.List.{list_any, slice_get}
 use Rattle.mr_model.specs.Dropped.{Has}
 use Rattle.mr_model.specs.Texts.{Text, words}
 use Rattle.mr_model.specs.Calendar.{date_text, time_text}
-use Rattle.mr_model.specs.Slots.{Slot, is_slot, same_slot, slot_words}
-use Rattle.mr_model.specs.Writes.{Id, Meeting, Action, Books, Cancels, Write, id_of, same_id, choices_of, choices_in, is_meeting, is_action, is_title, is_length, greatest_alternatives, fits_day}
+use Rattle.mr_model.specs.Slots.{Slot, same_slot, slot_words}
+use Rattle.mr_model.specs.Writes.{Id, Meeting, Action, Books, Cancels, Write, id_of, same_id, choices_of, choices_in, is_meeting, is_action}
 use Rattle.mr_model.specs.Replay.{Place, Taken, Logged, Done, Void, slot_at}
 use Rattle.mr_model.specs.Replica.{Replica, IsReplica, is_committed}
 use Rattle.mr_model.specs.Exchange.{slots_at}
 use Rattle.mr_model.specs.View.{place_of, canceller_of}
-use Rattle.mr_model.specs.Tables.{BookingRow, ErrorRow, CancelRow, LogRow, MeetingCells, seq_of, booked_in, erred_in, taken_back, as_booked, cancel_row_for, booking_place_row, place_row_for, place_row, as_booking, as_error, as_cancelled, as_cancel, choices_text, cells_of, log_row, tables_of}
+use Rattle.mr_model.specs.Tables.{BookingRow, ErrorRow, CancelRow, LogRow, MeetingCells, seq_of, booked_in, erred_in, taken_back, as_booked, cancel_row_for}
+use Rattle.mr_model.specs.Tables.{booking_place_row, place_row_for, place_row, as_booking, as_error, as_cancelled, as_cancel, choices_text, cells_of, log_row, tables_of}
 use Rattle.mr_model.specs.Queries.{booking_id, error_id, cancel_id, is_marked}
 use Rattle.mr_agree.specs.Agreeing.{same_mark, same_booking, same_error, same_cancel, slots_in, taken_row, logged_row, cancelling_row, has_taken, has_logged, is_at_place, do_places_agree}
 use Rattle.mr_model.proofs.Members.{any_has, same_id_refl}
 use Rattle.mr_model.proofs.SlotTests.{same_date_refl}
-use Rattle.mr_model.proofs.LinesReadBack.{slots_all, slots-read, words-cons}
-use Rattle.mr_model.proofs.RowsById.{known_write, action_within}
+use Rattle.mr_model.proofs.LinesReadBack.{slots-read}
+use Rattle.mr_model.proofs.RowsById.{known_write, action_within, meeting_slots, slots_long, words-snoc}
 use Rattle.mr_model.proofs.RowsOfKnown.{rows_of_known}
 use Rattle.mr_model.proofs.RowsTell.{of_known}
 use Rattle.mr_model.proofs.RoomTold.{known_went, committed-seq}
@@ -28,24 +30,6 @@ use Rattle.mr_model.proofs.Runs.{Went, took, failed, did, missed}
 use Rattle.mr_agree.proofs.AgreeCounts.{all_true, same_mark_from}
 
 -- ---- the slots of a text of choices
-
-words-snoc : (t : Text) (ts : List Text) → words (t ∷ (ts ++ [] ∷ [])) ≡ words (t ∷ ts) ++ 32 ∷ []
-words-snoc t [] = refl
-words-snoc t (u ∷ us) = ap (λ x. t ++ 32 ∷ x) (words-snoc u us) ∙ sym (append_assoc t (32 ∷ words (u ∷ us)) (32 ∷ []))
-
-slots_long : (ss : List Slot) → length (words (flat_map slot_words ss ++ [] ∷ [])) ≡ 17 * length ss
-slots_long [] = refl
-slots_long (s ∷ ss) =
-    let rest : length (words (flat_map slot_words ss ++ [] ∷ [])) ≡ 17 * length ss = slots_long ss in
-    let time : length (words (time_text s.start ∷ (flat_map slot_words ss ++ [] ∷ []))) ≡ length (time_text s.start ++ 32 ∷ words (flat_map slot_words ss ++ [] ∷ [])) = ap length (words-cons (time_text s.start) (flat_map slot_words ss) []) in
-    let more : length (time_text s.start ++ 32 ∷ words (flat_map slot_words ss ++ [] ∷ [])) ≡ 5 + (1 + length (words (flat_map slot_words ss ++ [] ∷ []))) = length-append (time_text s.start) (32 ∷ words (flat_map slot_words ss ++ [] ∷ [])) ∙ omega arith in
-    let day : length (date_text s.day ++ 32 ∷ words (time_text s.start ∷ (flat_map slot_words ss ++ [] ∷ []))) ≡ 10 + (1 + length (words (time_text s.start ∷ (flat_map slot_words ss ++ [] ∷ [])))) = length-append (date_text s.day) (32 ∷ words (time_text s.start ∷ (flat_map slot_words ss ++ [] ∷ []))) ∙ omega arith in
-    day ∙ omega (arith, rest, time, more)
-
-meeting_slots : (m : Meeting) → is_meeting m ≡ true → AllByRecursion (λ s. is_slot s ≡ true) (choices_of m)
-meeting_slots m ok =
-    slots_all m.length (choices_of m)
-    (and_parts (is_title m.title && is_length m.length && Rattle.std.proofs.Common.leb (length m.alternatives) greatest_alternatives) (list_all (λ s. is_slot s && fits_day m.length s) (choices_of m)) ok).1
 
 count_of_text : (t u : Text) (n : ℕ) → u ≡ t ++ 32 ∷ [] → length u ≡ 17 * n → (length t + 1) / 17 ≡ n
 count_of_text t u n e l =
@@ -57,7 +41,8 @@ count_of_text t u n e l =
 pub slots_in-text : (m : Meeting) → is_meeting m ≡ true → slots_in (choices_text m) ≡ choices_of m
 slots_in-text m ok =
     let text : words (flat_map slot_words (choices_of m) ++ [] ∷ []) ≡ choices_text m ++ 32 ∷ [] = words-snoc (date_text m.wish.day) (time_text m.wish.start ∷ flat_map slot_words m.alternatives) in
-    let n : (length (choices_text m) + 1) / 17 ≡ length (choices_of m) = count_of_text (choices_text m) (words (flat_map slot_words (choices_of m) ++ [] ∷ [])) (length (choices_of m)) text (slots_long (choices_of m)) in
+    let n : (length (choices_text m) + 1) / 17 ≡ length (choices_of m) =
+    count_of_text (choices_text m) (words (flat_map slot_words (choices_of m) ++ [] ∷ [])) (length (choices_of m)) text (slots_long (choices_of m)) in
     (λ i. slots_at (n i) 0 (sym text i))
     ∙ slots-read (choices_of m) 0 (words (flat_map slot_words (choices_of m) ++ [] ∷ [])) [] (meeting_slots m ok) refl
 
@@ -118,10 +103,13 @@ at_place r w h g = go (known_went r w h g)
     choices : (m : Meeting) (k : ℕ) → w.action ≡ Books m → slice_get (slots_in (choices_text m)) k ≡ slice_get (choices_of m) k
     choices m k f = ap (λ ss. slice_get ss k) (slots_in-text m (within_limits m f))
 
-    booked : (m : Meeting) (s : Slot) → record { room = w.room; day = s.day; start = s.start; stop = s.start + m.length; server = w.stamp.server; n = w.stamp.n; title = m.title; committed = is_marked (seq_of r w) } ≡ booked_in w m s (is_committed r (id_of w))
+    booked : (m : Meeting) (s : Slot)
+        → record { room = w.room; day = s.day; start = s.start; stop = s.start + m.length; server = w.stamp.server; n = w.stamp.n; title = m.title; committed = is_marked (seq_of r w) }
+        ≡ booked_in w m s (is_committed r (id_of w))
     booked m s = ap (λ b. booked_in w m s b) (sym (committed-seq r w))
 
-    taken : (m : Meeting) (s : Slot) (by : Option Id) → place_row r w ≡ booking_place_row w m (Some s) by (is_committed r (id_of w)) (seq_of r w) → has_taken (tables_of r) (log_row r w) (cells m) (Some s) ≡ true
+    taken : (m : Meeting) (s : Slot) (by : Option Id) → place_row r w ≡ booking_place_row w m (Some s) by (is_committed r (id_of w)) (seq_of r w)
+        → has_taken (tables_of r) (log_row r w) (cells m) (Some s) ≡ true
     taken m s None e =
         or_left (list_any (same_booking (taken_row (log_row r w) (cells m) s)) (tables_of r).booking) _
         (any_has (same_booking (taken_row (log_row r w) (cells m) s)) (booked_in w m s (is_committed r (id_of w))) (tables_of r).booking

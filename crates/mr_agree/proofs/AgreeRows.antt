@@ -6,8 +6,9 @@ use Rattle.mr_model.specs.Calendar.{Date}
 use Rattle.mr_model.specs.Replica.{Replica, opening}
 use Rattle.mr_model.specs.Step.{AddRoom, Submit, Cancel, Commit, Truncate, Submission, SlotWords}
 use Rattle.mr_model.specs.Tables.{Tables, BookingRow, tables_of}
-use Rattle.mr_agree.specs.Agreeing.{do_counts_agree, is_log_whole, do_limits_agree, does_meta_agree, do_ids_agree, do_marks_agree, do_rooms_agree, does_log_agree, do_times_agree, do_places_agree, do_cancels_agree, are_rows_apart, do_spans_agree, agree}
-use Rattle.mr_agree.specs.Ids.{has_id}
+use Rattle.mr_agree.specs.Agreeing.{do_counts_agree, is_log_whole, do_limits_agree, does_meta_agree, do_ids_agree, do_marks_agree, do_rooms_agree}
+use Rattle.mr_agree.specs.Agreeing.{does_log_agree, do_times_agree, do_places_agree, do_cancels_agree, are_rows_apart, do_spans_agree, agree}
+use Rattle.mr_agree.specs.Ids.{has_row_of_id}
 use Rattle.mr_model.specs.Writes.{Id}
 use Rattle.mr_model.proofs.Script.{Do, Lines, replica_after}
 
@@ -168,26 +169,26 @@ no_rows = record rows { log = []; booking = []; cancelled = []; cancels = [] }
 abbrev id_of_server_1 : ℕ → Id
 id_of_server_1 n = record { server = 1; n = n }
 
-taken_in_log : has_id (id_of_server_1 5) (record no_rows { log = rows.log }) ≡ true
+taken_in_log : has_row_of_id (id_of_server_1 5) (record no_rows { log = rows.log }) ≡ true
 unfolding digits
 taken_in_log = refl
 
-taken_in_booking : has_id (id_of_server_1 2) (record no_rows { booking = rows.booking }) ≡ true
+taken_in_booking : has_row_of_id (id_of_server_1 2) (record no_rows { booking = rows.booking }) ≡ true
 unfolding digits
 taken_in_booking = refl
 
-taken_in_cancelled : has_id (id_of_server_1 1) (record no_rows { cancelled = rows.cancelled }) ≡ true
+taken_in_cancelled : has_row_of_id (id_of_server_1 1) (record no_rows { cancelled = rows.cancelled }) ≡ true
 unfolding digits
 taken_in_cancelled = refl
 
-taken_in_cancels : has_id (id_of_server_1 5) (record no_rows { cancels = rows.cancels }) ≡ true
+taken_in_cancels : has_row_of_id (id_of_server_1 5) (record no_rows { cancels = rows.cancels }) ≡ true
 unfolding digits
 taken_in_cancels = refl
 
-taken_in_errorlog : has_id (record { server = 2; n = 2 }) (record no_rows { errorlog = (tables_of mixed).errorlog }) ≡ true
+taken_in_errorlog : has_row_of_id (record { server = 2; n = 2 }) (record no_rows { errorlog = (tables_of mixed).errorlog }) ≡ true
 unfolding digits
 taken_in_errorlog = refl
 
-none_taken : has_id (id_of_server_1 6) rows ≡ false
+none_taken : has_row_of_id (id_of_server_1 6) rows ≡ false
 unfolding digits
 none_taken = refl

@@ -1,5 +1,5 @@
 -- The rows of a replica's bookings and logged requests end on their day, and not before they begin.
-use Rattle.std.proofs.Common.{◌≡◌, refl, sym, ap, ◌∙◌, subst, ◌+◌, ◌≤◌, Bool, true, ◌&&◌, leb, ltb, List, [], ◌∷◌, length, inl, inr, Option, Some, None, arith, leb-true, lt-ltb}
+use Rattle.std.proofs.Common.{◌≡◌, refl, sym, ap, ◌∙◌, subst, ◌+◌, ◌≤◌, Bool, true, ◌&&◌, leb, ltb, length, inl, Option, Some, None, arith, leb-true, lt-ltb}
 use Rattle.std.proofs.lemmas.Bool.{and_parts}
 use Rattle.std.specs.List.{list_all, slice_get}
 use Rattle.mr_model.specs.Dropped.{Has}
@@ -15,6 +15,7 @@ use Rattle.mr_model.proofs.RowsById.{known_write, action_within}
 use Rattle.mr_model.proofs.RoomTold.{known_went}
 use Rattle.mr_model.proofs.Runs.{Went, took, failed, did, missed}
 use Rattle.mr_agree.proofs.AgreeCounts.{all_true, all_three, of_booking, of_error, of_cancelled}
+use Rattle.mr_model.proofs.Lists.{list_all_at}
 
 abbrev HasSpan : PlaceRow → Type 0
 HasSpan (Booked row) = is_span (record { day = row.day; start = row.start }) row.stop ≡ true
@@ -22,18 +23,13 @@ HasSpan (Erred row) = is_span (record { day = row.day; start = row.start }) row.
 HasSpan (Cancelled row) = is_span (record { day = row.day; start = row.start }) row.stop ≡ true
 HasSpan (Cancel row) = Unit {0}
 
-all_at : {A : Type 0} (p : A → Bool) (x : A) (xs : List A) → list_all p xs ≡ true → Has x xs → p x ≡ true
-all_at p x [] e h = absurd h
-all_at p x (y ∷ ys) e (inl s) = ap p s ∙ (and_parts (p y) (list_all p ys) e).0
-all_at p x (y ∷ ys) e (inr h) = all_at p x ys (and_parts (p y) (list_all p ys) e).1 h
-
 choice_span : (m : Meeting) (s : Slot) → is_meeting m ≡ true → Has s (choices_of m) → is_span s (s.start + m.length) ≡ true
 choice_span m s ok g =
     let a = and_parts (is_title m.title && is_length m.length && leb (length m.alternatives) greatest_alternatives) (list_all (λ x. is_slot x && fits_day m.length x) (choices_of m)) ok in
     let b = and_parts (is_title m.title && is_length m.length) (leb (length m.alternatives) greatest_alternatives) a.0 in
     let c = and_parts (is_title m.title) (is_length m.length) b.0 in
     let long : 1 ≤ m.length = leb-true 1 m.length (and_parts (leb 1 m.length) (leb m.length 1440) c.1).0 in
-    let d = and_parts (is_slot s) (fits_day m.length s) (all_at (λ x. is_slot x && fits_day m.length x) s (choices_of m) a.1 g) in
+    let d = and_parts (is_slot s) (fits_day m.length s) (list_all_at (λ x. is_slot x && fits_day m.length x) s (choices_of m) a.1 g) in
     all_three (is_slot s) (ltb s.start (s.start + m.length)) (leb (s.start + m.length) 1440) d.0 (lt-ltb s.start (s.start + m.length) (omega (arith, long))) d.1
 
 has_span : (r : Replica) (w : Write) → IsReplica r → Has w r.known → HasSpan (place_row r w)

@@ -1,11 +1,12 @@
 -- Times and commit numbers of a replica's rows: of one server's writes the later ones have the greater.
-use Rattle.std.proofs.Common.{◌≡◌, refl, sym, ap, ◌∙◌, subst, ℕ, ◌+◌, ◌-◌, ◌<◌, ◌≤◌, Bool, true, false, not, cond, ◌&&◌, ◌||◌, eqb, ltb, leb, List, [], ◌∷◌, ◌++◌, length, map, take, drop, ◌⊎◌, inl, inr, arith, IsTrue, eqb-true, eq-eqb, le-leb, leb-true, lt-ltb, slice_index, le_refl}
+use Rattle.std.proofs.Common.{◌≡◌, refl, sym, ap, ◌∙◌, subst, ℕ, ◌+◌, ◌-◌, ◌<◌, ◌≤◌, Bool, true, false, not, cond, ◌&&◌, ◌||◌, eqb, ltb, leb, List, [], ◌∷◌}
+use Rattle.std.proofs.Common.{◌++◌, length, map, take, drop, ◌⊎◌, inl, inr, arith, IsTrue, eqb-true, eq-eqb, le-leb, leb-true, lt-ltb, slice_index, le_refl}
 use Rattle.std.proofs.lemmas.Bool.{and_from, and_parts, true≢false, cases_eq, cond-true, cond-false, false_from_ne_true, not-true, or_left, or_right}
 use Rattle.std.specs.List.{list_all}
 use Rattle.mr_model.specs.Dropped.{Has}
 use Rattle.mr_model.specs.Texts.{within, numbers_on}
 use Rattle.mr_model.specs.Writes.{Id, Write, id_of, same_id, stamp_before}
-use Rattle.mr_model.specs.Replica.{Replica, IsReplica, greatest, last_time, count_of, writes_of, is_among}
+use Rattle.mr_model.specs.Replica.{Replica, IsReplica, last_time, count_of, writes_of, is_among}
 use Rattle.mr_model.specs.Tables.{VectorRow, ErrorRow, CancelRow, LogRow, Erred, Cancel, Tables, seq_of, tables_of}
 use Rattle.mr_agree.specs.Agreeing.{Note, log_note, error_note, cancel_note, notes, does_time_agree, are_numbers_in_order, do_two_agree, do_times_agree}
 use Rattle.mr_model.proofs.Members.{has_split, map_has, filter_has, all_has, Sorted, same_id-true, same_id_from}
@@ -15,7 +16,7 @@ use Rattle.mr_model.proofs.RowsById.{at_seq}
 use Rattle.mr_model.proofs.RowsOfKnown.{rows_of_known}
 use Rattle.mr_model.proofs.TruncateRows.{front-seq}
 use Rattle.mr_model.proofs.UniqueReplay.{some_inj}
-use Rattle.mr_agree.proofs.AgreeCounts.{all_true, vector-at, late, time_of, of_error, of_cancel}
+use Rattle.mr_agree.proofs.AgreeCounts.{all_true, vector-at, late, time_of, of_error, of_cancel, greatest_below}
 use Rattle.mr_agree.proofs.AgreeMarks.{row_tells}
 use Rattle.mr_agree.proofs.AgreeLog.{front_before}
 
@@ -52,7 +53,8 @@ noted r a h g = go (has_split a (map log_note (tables_of r).log) (map error_note
 
 -- ---- of one server's writes
 
-numbered_sorted : (lt : Write → Write → Type 0) (k : ℕ) (v w : Write) (xs : List Write) → map (λ x. x.stamp.n) xs ≡ numbers_on k (length xs) → Sorted lt xs → Has v xs → Has w xs → v.stamp.n < w.stamp.n → lt v w
+numbered_sorted : (lt : Write → Write → Type 0) (k : ℕ) (v w : Write) (xs : List Write)
+    → map (λ x. x.stamp.n) xs ≡ numbers_on k (length xs) → Sorted lt xs → Has v xs → Has w xs → v.stamp.n < w.stamp.n → lt v w
 numbered_sorted lt k v w [] e s a b l = absurd a
 numbered_sorted lt k v w (x ∷ xs) e s (inl p) (inl q) l = absurd (let same : v.stamp.n ≡ w.stamp.n = ap (λ (y : Write). y.stamp.n) (p ∙ sym q) in omega (arith, same, l))
 numbered_sorted lt k v w (x ∷ xs) e s (inl p) (inr b) l = subst (λ y. lt y w) (sym p) (all_has (lt x) w xs s.0 b)
@@ -65,7 +67,8 @@ numbered_sorted lt k v w (x ∷ xs) e s (inr a) (inr b) l = numbered_sorted lt (
 
 pub times_rise : (r : Replica) (v w : Write) → IsReplica r → Has v r.known → Has w r.known → v.stamp.server ≡ w.stamp.server → v.stamp.n < w.stamp.n → v.stamp.time < w.stamp.time
 times_rise r v w h a b s l =
-    go (before-true v w (numbered_sorted (λ x y. IsTrue (stamp_before x y)) 1 v w (writes_of w.stamp.server r.known) (numbered_writes r w.stamp.server h) (order-filter (λ x. eqb x.stamp.server w.stamp.server) r.known h.in_stamp_order) (own_has_at w.stamp.server v r.known s a) (own_has_at w.stamp.server w r.known refl b) l))
+    go (before-true v w (numbered_sorted (λ x y. IsTrue (stamp_before x y)) 1 v w (writes_of w.stamp.server r.known) (numbered_writes r w.stamp.server h)
+    (order-filter (λ x. eqb x.stamp.server w.stamp.server) r.known h.in_stamp_order) (own_has_at w.stamp.server v r.known s a) (own_has_at w.stamp.server w r.known refl b) l))
   where
     go : (v.stamp.time < w.stamp.time) ⊎ ((v.stamp.time ≡ w.stamp.time) × (v.stamp.server < w.stamp.server)) → v.stamp.time < w.stamp.time
     go (inl x) = x
@@ -74,10 +77,13 @@ times_rise r v w h a b s l =
 -- a committed write has only committed ones of its server before it, with smaller numbers
 pub numbers_rise : (r : Replica) (v w : Write) → IsReplica r → Has v r.known → v.stamp.server ≡ w.stamp.server → v.stamp.n < w.stamp.n → 1 ≤ seq_of r w → (1 ≤ seq_of r v) × (seq_of r v < seq_of r w)
 numbers_rise r v w h a s l c =
-    let own : is_among (id_of w) (take (seq_of r w) r.commits) ≡ true = front-seq (seq_of r w) r.commits (id_of w) ∙ and_from (leb 1 (seq_of r w)) (leb (seq_of r w) (seq_of r w)) (le-leb 1 (seq_of r w) c) (le-leb (seq_of r w) (seq_of r w) (omega arith)) in
+    let own : is_among (id_of w) (take (seq_of r w) r.commits) ≡ true = front-seq (seq_of r w) r.commits (id_of w)
+    ∙ and_from (leb 1 (seq_of r w)) (leb (seq_of r w) (seq_of r w)) (le-leb 1 (seq_of r w) c) (le-leb (seq_of r w) (seq_of r w) (omega arith)) in
     let low : 1 ≤ v.stamp.n = (known_bounds r v h a).0 in
-    let first : is_among (record { server = w.stamp.server; n = v.stamp.n }) (take (seq_of r w) r.commits) ≡ true = front_before r (seq_of r w) w.stamp.server v.stamp.n w.stamp.n h low (omega (arith, l)) own in
-    let there : within 1 (seq_of r w) (seq_of r v) ≡ true = sym (front-seq (seq_of r w) r.commits (id_of v)) ∙ ap (λ x. is_among (record { server = x; n = v.stamp.n }) (take (seq_of r w) r.commits)) s ∙ first in
+    let first : is_among (record { server = w.stamp.server; n = v.stamp.n }) (take (seq_of r w) r.commits)
+    ≡ true = front_before r (seq_of r w) w.stamp.server v.stamp.n w.stamp.n h low (omega (arith, l)) own in
+    let there : within 1 (seq_of r w) (seq_of r v) ≡ true = sym (front-seq (seq_of r w) r.commits (id_of v))
+    ∙ ap (λ x. is_among (record { server = x; n = v.stamp.n }) (take (seq_of r w) r.commits)) s ∙ first in
     let p = and_parts (leb 1 (seq_of r v)) (leb (seq_of r v) (seq_of r w)) there in
     let positive : 1 ≤ seq_of r v = leb-true 1 (seq_of r v) p.0 in
     let few : seq_of r v ≤ seq_of r w = leb-true (seq_of r v) (seq_of r w) p.1 in
@@ -97,18 +103,11 @@ one_number r x y q e f low =
 
 -- ---- the last of each server
 
-greatest_at : (g : ℕ) (ns : List ℕ) → ((n : ℕ) → Has n ns → n ≤ g) → greatest ns ≤ g
-greatest_at g [] f = omega arith
-greatest_at g (m ∷ ms) f =
-    let first : m ≤ g = f m (inl refl) in
-    let rest : greatest ms ≤ g = greatest_at g ms (λ n h. f n (inr h)) in
-    omega (arith, first, rest)
-
 pub last_is : (r : Replica) (w : Write) → IsReplica r → Has w r.known → w.stamp.n ≡ count_of r w.stamp.server → w.stamp.time ≡ last_time r w.stamp.server
 last_is r w h a e =
     let low : w.stamp.time ≤ last_time r w.stamp.server = late r w a in
     let high : last_time r w.stamp.server ≤ w.stamp.time =
-    greatest_at w.stamp.time (map time_of (writes_of w.stamp.server r.known))
+    greatest_below w.stamp.time (map time_of (writes_of w.stamp.server r.known))
     (λ n g. let (v, i, s) = map_has time_of n (writes_of w.stamp.server r.known) g in
     let f = filter_has (λ x. eqb x.stamp.server w.stamp.server) v r.known i in
     let own : v.stamp.server ≡ w.stamp.server = eqb-true v.stamp.server w.stamp.server f.1 in
@@ -142,7 +141,8 @@ time_agrees r a w h is =
     let id = is.id in
     let time = is.time in
     subst (λ (b : Note). does_time_agree (tables_of r) b ≡ true) (λ i. record { id = sym id i; time = sym time i; seq = a.seq })
-    (ap (λ (v : VectorRow). cond (eqb w.stamp.n v.count) (eqb w.stamp.time v.last_time) (ltb w.stamp.time v.last_time)) (vector-at r w.stamp.server h) ∙ go (eqb w.stamp.n (count_of r w.stamp.server)) refl)
+    (ap (λ (v : VectorRow). cond (eqb w.stamp.n v.count) (eqb w.stamp.time v.last_time) (ltb w.stamp.time v.last_time)) (vector-at r w.stamp.server h)
+    ∙ go (eqb w.stamp.n (count_of r w.stamp.server)) refl)
   where
     go : (b : Bool) → eqb w.stamp.n (count_of r w.stamp.server) ≡ b → cond b (eqb w.stamp.time (last_time r w.stamp.server)) (ltb w.stamp.time (last_time r w.stamp.server)) ≡ true
     go true e = eq-eqb w.stamp.time (last_time r w.stamp.server) (last_is r w h is.known (eqb-true w.stamp.n (count_of r w.stamp.server) e))
@@ -153,7 +153,8 @@ time_agrees r a w h is =
 note_of : Replica → Write → Note
 note_of r w = record { id = id_of w; time = w.stamp.time; seq = seq_of r w }
 
-two_agree : (r : Replica) (v w : Write) → IsReplica r → Has v r.known → Has w r.known → do_two_agree (record { id = id_of v; time = v.stamp.time; seq = seq_of r v }) (record { id = id_of w; time = w.stamp.time; seq = seq_of r w }) ≡ true
+two_agree : (r : Replica) (v w : Write) → IsReplica r → Has v r.known → Has w r.known
+    → do_two_agree (record { id = id_of v; time = v.stamp.time; seq = seq_of r v }) (record { id = id_of w; time = w.stamp.time; seq = seq_of r w }) ≡ true
 two_agree r v w h a b = go (same_id (id_of v) (id_of w)) refl
   where
     same : id_of v ≡ id_of w → (eqb v.stamp.time w.stamp.time && eqb (seq_of r v) (seq_of r w)) ≡ true
@@ -164,7 +165,8 @@ two_agree r v w h a b = go (same_id (id_of v) (id_of w)) refl
     numbers : same_id (id_of v) (id_of w) ≡ false → (x : Bool) → eqb (seq_of r v) 0 ≡ x → (y : Bool) → eqb (seq_of r v) (seq_of r w) ≡ y → (x || not y) ≡ true
     numbers ne true e y f = refl
     numbers ne false e false f = refl
-    numbers ne false e true f = absurd (true≢false (sym (same_id_from (id_of v) (id_of w) (one_number r (id_of v) (id_of w) (seq_of r w) (eqb-true (seq_of r v) (seq_of r w) f) refl (positive (cases_eq (seq_of r w) 0)))) ∙ ne))
+    numbers ne false e true f = absurd
+        (true≢false (sym (same_id_from (id_of v) (id_of w) (one_number r (id_of v) (id_of w) (seq_of r w) (eqb-true (seq_of r v) (seq_of r w) f) refl (positive (cases_eq (seq_of r w) 0)))) ∙ ne))
       where
         positive : (seq_of r w ≡ 0) ⊎ (seq_of r w ≡ 0 → ⊥) → 1 ≤ seq_of r w
         positive (inl z) = absurd (true≢false (sym (eq-eqb (seq_of r v) 0 (eqb-true (seq_of r v) (seq_of r w) f ∙ z)) ∙ e))
@@ -175,7 +177,8 @@ two_agree r v w h a b = go (same_id (id_of v) (id_of w)) refl
     later s l false e =
         let p = numbers_rise r v w h a s l (positive (cases_eq (seq_of r w) 0)) in
         let low : 1 ≤ seq_of r v = p.0 in
-        and_from (not (eqb (seq_of r v) 0)) (ltb (seq_of r v) (seq_of r w)) (ap not (false_from_ne_true (eqb (seq_of r v) 0) (λ z. let n = eqb-true (seq_of r v) 0 z in omega (arith, n, low)))) (lt-ltb (seq_of r v) (seq_of r w) p.1)
+        and_from (not (eqb (seq_of r v) 0)) (ltb (seq_of r v) (seq_of r w))
+        (ap not (false_from_ne_true (eqb (seq_of r v) 0) (λ z. let n = eqb-true (seq_of r v) 0 z in omega (arith, n, low)))) (lt-ltb (seq_of r v) (seq_of r w) p.1)
       where
         positive : (seq_of r w ≡ 0) ⊎ (seq_of r w ≡ 0 → ⊥) → 1 ≤ seq_of r w
         positive (inl z) = absurd (true≢false (sym (eq-eqb (seq_of r w) 0 z) ∙ e))
@@ -191,10 +194,12 @@ two_agree r v w h a b = go (same_id (id_of v) (id_of w)) refl
 
     go : (x : Bool) → same_id (id_of v) (id_of w) ≡ x
         → cond x (eqb v.stamp.time w.stamp.time && eqb (seq_of r v) (seq_of r w))
-        ((eqb (seq_of r v) 0 || not (eqb (seq_of r v) (seq_of r w))) && (not (eqb v.stamp.server w.stamp.server && ltb v.stamp.n w.stamp.n) || (ltb v.stamp.time w.stamp.time && are_numbers_in_order (seq_of r v) (seq_of r w)))) ≡ true
+        ((eqb (seq_of r v) 0 || not (eqb (seq_of r v) (seq_of r w)))
+        && (not (eqb v.stamp.server w.stamp.server && ltb v.stamp.n w.stamp.n) || (ltb v.stamp.time w.stamp.time && are_numbers_in_order (seq_of r v) (seq_of r w)))) ≡ true
     go true e = same (same_id-true (id_of v) (id_of w) e)
     go false e =
-        and_from (eqb (seq_of r v) 0 || not (eqb (seq_of r v) (seq_of r w))) (not (eqb v.stamp.server w.stamp.server && ltb v.stamp.n w.stamp.n) || (ltb v.stamp.time w.stamp.time && are_numbers_in_order (seq_of r v) (seq_of r w)))
+        and_from (eqb (seq_of r v) 0 || not (eqb (seq_of r v) (seq_of r w)))
+        (not (eqb v.stamp.server w.stamp.server && ltb v.stamp.n w.stamp.n) || (ltb v.stamp.time w.stamp.time && are_numbers_in_order (seq_of r v) (seq_of r w)))
         (numbers e (eqb (seq_of r v) 0) refl (eqb (seq_of r v) (seq_of r w)) refl)
         (rising (eqb v.stamp.server w.stamp.server && ltb v.stamp.n w.stamp.n) refl)
 
@@ -213,4 +218,5 @@ times_agree r h =
     let u = y.time in
     let p = y.seq in
     subst (λ (n : Note). do_two_agree n b ≡ true) (λ l. record { id = sym i l; time = sym t l; seq = sym q l })
-    (subst (λ (n : Note). do_two_agree (record { id = id_of v; time = v.stamp.time; seq = seq_of r v }) n ≡ true) (λ l. record { id = sym j l; time = sym u l; seq = sym p l }) (two_agree r v w h x.known y.known)))))
+    (subst (λ (n : Note). do_two_agree (record { id = id_of v; time = v.stamp.time; seq = seq_of r v }) n ≡ true)
+    (λ l. record { id = sym j l; time = sym u l; seq = sym p l }) (two_agree r v w h x.known y.known)))))

@@ -8,7 +8,7 @@ use Rattle.mr_model.specs.Replica.{Replica, count_of}
 use Rattle.mr_model.specs.Tables.{Tables, Stands, tables_of}
 use Rattle.mr_model.specs.Queries.{booking_id, error_id, cancelled_id, cancel_id, log_id}
 use Rattle.mr_agree.specs.Agreeing.{row_ids, log_ids}
-use Rattle.mr_agree.specs.Ids.{has_place_of, has_id}
+use Rattle.mr_agree.specs.Ids.{has_place_of, has_row_of_id}
 use Rattle.mr_model.proofs.Members.{has_left, has_right, same_id-true}
 use Rattle.mr_agree.proofs.AgreeLog.{next_is_free}
 
@@ -42,8 +42,8 @@ no_place_has t id never =
     (none_has cancelled_id id t.cancelled (λ h. last (has_left id cancelled cancels h)))
     (none_has cancel_id id t.cancels (λ h. last (has_right id cancelled cancels h))))
 
-pub next_ids_are_free : (t : Tables) (r : Replica) (id : Id) → Stands t r → count_of r id.server < id.n → has_id id t ≡ false
-next_ids_are_free t r id s l = ap (has_id id) s.are ∙ go (tables_of r) (next_is_free r id s.sound l)
+pub next_ids_are_free : (t : Tables) (r : Replica) (id : Id) → Stands t r → count_of r id.server < id.n → has_row_of_id id t ≡ false
+next_ids_are_free t r id s l = ap (has_row_of_id id) s.are ∙ go (tables_of r) (next_is_free r id s.sound l)
   where
-    go : (u : Tables) → (Has id (row_ids u) → ⊥) × (Has id (log_ids u) → ⊥) → has_id id u ≡ false
+    go : (u : Tables) → (Has id (row_ids u) → ⊥) × (Has id (log_ids u) → ⊥) → has_row_of_id id u ≡ false
     go u never = neither (list_any (λ row. same_id (log_id row) id) u.log) (has_place_of id u) (none_has log_id id u.log never.1) (no_place_has u id never.0)

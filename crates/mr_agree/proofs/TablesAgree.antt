@@ -3,7 +3,8 @@ use Rattle.std.proofs.Common.{◌≡◌, sym, subst, Bool, true, ◌&&◌}
 use Rattle.std.proofs.lemmas.Bool.{and_from}
 use Rattle.mr_model.specs.Replica.{Replica, IsReplica}
 use Rattle.mr_model.specs.Tables.{Tables, tables_of, Stands}
-use Rattle.mr_agree.specs.Agreeing.{does_meta_agree, do_counts_agree, do_ids_agree, do_marks_agree, do_rooms_agree, does_log_agree, is_log_whole, do_times_agree, do_places_agree, do_cancels_agree, are_rows_apart, do_spans_agree, do_limits_agree, agree}
+use Rattle.mr_agree.specs.Agreeing.{does_meta_agree, do_counts_agree, do_ids_agree, do_marks_agree, do_rooms_agree, does_log_agree, is_log_whole}
+use Rattle.mr_agree.specs.Agreeing.{do_times_agree, do_places_agree, do_cancels_agree, are_rows_apart, do_spans_agree, do_limits_agree, agree}
 use Rattle.mr_agree.proofs.AgreeCounts.{meta_agrees, counts_agree, ids_agree, all_four}
 use Rattle.mr_agree.proofs.AgreeMarks.{marks_agree, rooms_agree}
 use Rattle.mr_agree.proofs.AgreeLog.{log_agrees, log_whole}

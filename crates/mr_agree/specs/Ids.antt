@@ -13,9 +13,9 @@ has_place_of id t =
     || (list_any (λ r. same_id (cancelled_id r) id) t.cancelled || list_any (λ r. same_id (cancel_id r) id) t.cancels)
 
 -- or one of the log
-abbrev pub has_id : Id → Tables → Bool
-has_id id t = list_any (λ r. same_id (log_id r) id) t.log || has_place_of id t
+abbrev pub has_row_of_id : Id → Tables → Bool
+has_row_of_id id t = list_any (λ r. same_id (log_id r) id) t.log || has_place_of id t
 
 -- of tables that stand for a replica no row has an id that is not given out yet, as the next one of a server
 abbrev pub NextIdsAreFree : Type 0
-NextIdsAreFree = (t : Tables) (r : Replica) (id : Id) → Stands t r → count_of r id.server < id.n → has_id id t ≡ false
+NextIdsAreFree = (t : Tables) (r : Replica) (id : Id) → Stands t r → count_of r id.server < id.n → has_row_of_id id t ≡ false

@@ -57,7 +57,9 @@ apart_not C (x ∷ y ∷ ys) (suc k) d low e =
     and_right (list_all (λ z. not (C x z)) (y ∷ ys)) (apart C (y ∷ ys)) (apart_not C (y ∷ ys) k d (omega (arith, low)) (subst (λ n. C (get_or (y ∷ ys) k d) (get_or (x ∷ y ∷ ys) n d) ≡ true) next e))
 
 -- what a test of neighbours of a sorted list answers, where those that fail it conflict
-pub apart_answer : {X : Type 0} (lt R C : X → X → Bool) (V : X → Type 0) → ((x y z : X) → V y → R x y ≡ true → R y z ≡ true → R x z ≡ true) → ((x y : X) → R x y ≡ true → C x y ≡ false) → ((x y : X) → V x → V y → lt y x ≡ false → R x y ≡ false → C x y ≡ true) → (xs : List X) → All V xs → IsSortedBy lt xs → (r : Bool) → IsAllAdjacentAnswer (λ x y b. b ≡ R x y) xs r → r ≡ apart C xs
+pub apart_answer : {X : Type 0} (lt R C : X → X → Bool) (V : X → Type 0) → ((x y z : X) → V y → R x y ≡ true → R y z ≡ true → R x z ≡ true)
+    → ((x y : X) → R x y ≡ true → C x y ≡ false) → ((x y : X) → V x → V y → lt y x ≡ false → R x y ≡ false → C x y ≡ true)
+    → (xs : List X) → All V xs → IsSortedBy lt xs → (r : Bool) → IsAllAdjacentAnswer (λ x y b. b ≡ R x y) xs r → r ≡ apart C xs
 apart_answer lt R C V join off on xs good up true m =
     sym (apart_from (λ x y. R x y ≡ true) C off xs (follow_all (λ x y. R x y ≡ true) V join xs good (λ k d low. sym (m k d low))))
 apart_answer lt R C V join off on [] good up false m = absurd (let (k, low, f) = m in omega (arith, low))
@@ -91,7 +93,8 @@ pairs-cons : {X : Type 0} (C : X → X → Bool) → ((x y : X) → C x y ≡ C 
 pairs-cons C alike x xs =
     let first = sum_by-cons (clash C x) x xs in
     let all = sum_by-cons (λ z. sum_by (clash C z) (x ∷ xs)) x xs in
-    let each : sum_by (λ z. sum_by (clash C z) (x ∷ xs)) xs ≡ sum_by (λ z. clash C x z + sum_by (clash C z) xs) xs = λ i. sum_by (λ z. (sum_by-cons (clash C z) x xs ∙ ap (λ b. cond b 1 0 + sum_by (clash C z) xs) (alike z x)) i) xs in
+    let each : sum_by (λ z. sum_by (clash C z) (x ∷ xs)) xs ≡ sum_by (λ z. clash C x z + sum_by (clash C z) xs) xs =
+    λ i. sum_by (λ z. (sum_by-cons (clash C z) x xs ∙ ap (λ b. cond b 1 0 + sum_by (clash C z) xs) (alike z x)) i) xs in
     let split = sum_plus (clash C x) (λ z. sum_by (clash C z) xs) xs in
     omega (arith, first, all, each, split)
 
@@ -115,7 +118,8 @@ clash_free C x (y ∷ ys) e =
     go true c z rest = let one : clash C x y ≡ 1 = ap (λ b. cond b 1 0) c in absurd (omega (arith, one, z))
     go false c z rest = and_from (not (C x y)) (list_all (λ z. not (C x z)) ys) (not_from_false (C x y) c) rest
 
-own_pairs : {X : Type 0} (C : X → X → Bool) → ((x y : X) → C x y ≡ C y x) → (xs : List X) → (own C xs ≤ pairs C xs) × (apart C xs ≡ true → pairs C xs ≡ own C xs) × (pairs C xs ≡ own C xs → apart C xs ≡ true)
+own_pairs : {X : Type 0} (C : X → X → Bool) → ((x y : X) → C x y ≡ C y x) → (xs : List X)
+    → (own C xs ≤ pairs C xs) × (apart C xs ≡ true → pairs C xs ≡ own C xs) × (pairs C xs ≡ own C xs → apart C xs ≡ true)
 own_pairs C alike [] = (omega arith, λ e. refl, λ e. refl)
 own_pairs C alike (x ∷ xs) =
     let rest = own_pairs C alike xs in
@@ -143,7 +147,8 @@ apart-permutation C alike xs ys moved = go (apart C xs) (apart C ys) (own_pairs 
     mine : own C ys ≡ own C xs
     mine = sum_by-IsPermutation (λ x. clash C x x) xs ys moved
 
-    go : (a b : Bool) → (own C xs ≤ pairs C xs) × (a ≡ true → pairs C xs ≡ own C xs) × (pairs C xs ≡ own C xs → a ≡ true) → (own C ys ≤ pairs C ys) × (b ≡ true → pairs C ys ≡ own C ys) × (pairs C ys ≡ own C ys → b ≡ true) → a ≡ b
+    go : (a b : Bool) → (own C xs ≤ pairs C xs) × (a ≡ true → pairs C xs ≡ own C xs) × (pairs C xs ≡ own C xs → a ≡ true)
+        → (own C ys ≤ pairs C ys) × (b ≡ true → pairs C ys ≡ own C ys) × (pairs C ys ≡ own C ys → b ≡ true) → a ≡ b
     go true b p q = sym (q.2 (all ∙ p.1 refl ∙ sym mine))
     go false true p q = p.2 (sym all ∙ q.1 refl ∙ mine)
     go false false p q = refl

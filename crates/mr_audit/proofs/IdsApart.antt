@@ -23,7 +23,7 @@ and-true true = refl
 and-true false = refl
 
 -- the order of two conditions in the middle
-crossed : (a b c d : Bool) → ((a && b) && (c && d)) ≡ ((a && c) && (b && d))
+pub crossed : (a b c d : Bool) → ((a && b) && (c && d)) ≡ ((a && c) && (b && d))
 crossed true true c d = refl
 crossed true false true d = refl
 crossed true false false d = refl

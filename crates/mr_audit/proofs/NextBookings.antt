@@ -1,5 +1,5 @@
 -- Bookings in the order of rooms, days and starts: from one to the next.
-use Rattle.std.proofs.Common.{◌≡◌, refl, sym, ap, ◌∙◌, ℕ, ◌+◌, ◌-◌, ◌≤◌, min, max, Bool, true, false, ◌&&◌, nat_lt, nat_le, List, [], ◌∷◌, arith}
+use Rattle.std.proofs.Common.{◌≡◌, refl, sym, ap, ◌∙◌, ◌+◌, ◌-◌, ◌≤◌, min, max, Bool, true, false, ◌&&◌, nat_lt, nat_le, List, [], ◌∷◌, arith}
 use Rattle.std.specs.Prelude.{bytes_eq, not}
 use Rattle.std.specs.List.{list_all}
 use Rattle.std.specs.Cmp.{IsTotalOrder, both_ways}
@@ -10,7 +10,7 @@ use Rattle.std.specs.declared.cmp.Ordering.TheVariants.{Less, Equal, Greater}
 use Rattle.std.proofs.lemmas.Bool.{true≢false, and_parts, and_from, and_right, ltb-true, leb-true, leb-false, lt-ltb, le-ltb, le-leb, false_from_ne_true}
 use Rattle.std.proofs.lemmas.Bool.Decides.{nat_tests}
 use Rattle.std.proofs.lemmas.Cmp.{on_total, nat_cmp_total, then_total, nat_list_cmp_total}
-use Rattle.std.proofs.lemmas.Map.Lookups.{CmpEqualImpliesEq, exact_pairs, exact_unsigned, exact_bytes}
+use Rattle.std.proofs.lemmas.Map.Lookups.{exact_pairs, exact_bytes}
 use Rattle.std.proofs.lemmas.Slice.Eq.{bytes_eq-Decides}
 use Rattle.mr_model.specs.Texts.{Text}
 use Rattle.mr_model.specs.Calendar.{Date, same_date}
@@ -19,6 +19,8 @@ use Rattle.mr_model.proofs.SlotTests.{same_date-true, same_date_from}
 use Rattle.mr_replay.specs.Index.{day_cmp}
 use Rattle.mr_agree.specs.Agreeing.{do_rows_overlap, are_rows_apart}
 use Rattle.mr_audit.specs.Apart.{apart, place_cmp, start_cmp, or_alike, is_next_booking, is_positive}
+use Rattle.mr_replay.proofs.Keys.{exact_days}
+use Rattle.mr_audit.proofs.SortedNames.{itself}
 
 -- ---- the order is total, and exact
 
@@ -33,30 +35,10 @@ places_total = then_total (on_total (λ (r : BookingRow). r.room) nat_list_cmp_t
 pub starts_total : IsTotalOrder start_cmp
 starts_total = then_total places_total (on_total (λ (r : BookingRow). r.start) nat_cmp_total)
 
-exact_days : CmpEqualImpliesEq day_cmp
-exact_days a b h =
-    ap (λ (p : ℕ × (ℕ × ℕ)). record { year = p.0; month = (p.1).0; day = (p.1).1 })
-    (exact_pairs nat_cmp _ exact_unsigned (exact_pairs nat_cmp nat_cmp exact_unsigned exact_unsigned) (a.year, (a.month, a.day)) (b.year, (b.month, b.day)) h)
-
 one_place : (x y : BookingRow) → place_cmp x y ≡ Equal → (x.room ≡ y.room) × (x.day ≡ y.day)
 one_place x y e =
     let p = exact_pairs (slice_cmp nat_cmp) day_cmp exact_bytes exact_days (x.room, x.day) (y.room, y.day) e in
     (ap (λ (q : Text × Date). q.0) p, ap (λ (q : Text × Date). q.1) p)
-
-itself : (o : Ordering) → o ≡ ordering_reverse o → o ≡ Equal
-itself Less e = sym (ap (λ o. or_equal o) e)
-  where
-    or_equal : Ordering → Ordering
-    or_equal Less = Equal
-    or_equal Equal = Equal
-    or_equal Greater = Less
-itself Equal e = refl
-itself Greater e = sym (ap (λ o. or_equal o) e)
-  where
-    or_equal : Ordering → Ordering
-    or_equal Less = Greater
-    or_equal Equal = Equal
-    or_equal Greater = Equal
 
 alike : (x y : BookingRow) → x.room ≡ y.room → x.day ≡ y.day → place_cmp x y ≡ Equal
 alike x y room day =
@@ -66,7 +48,8 @@ alike x y room day =
 -- ---- from one to the next
 
 -- a later place than an alike one, or an alike one behind
-place_joins : (x y z : BookingRow) (o p : Ordering) → place_cmp x y ≡ o → place_cmp y z ≡ p → (s t u : Bool) → or_alike o s ≡ true → or_alike p t ≡ true → (s ≡ true → t ≡ true → u ≡ true) → or_alike (place_cmp x z) u ≡ true
+place_joins : (x y z : BookingRow) (o p : Ordering) → place_cmp x y ≡ o → place_cmp y z ≡ p → (s t u : Bool)
+    → or_alike o s ≡ true → or_alike p t ≡ true → (s ≡ true → t ≡ true → u ≡ true) → or_alike (place_cmp x z) u ≡ true
 place_joins x y z Less Less e f s t u a b c = ap (λ o. or_alike o u) (places_total.trans x y z e f)
 place_joins x y z Less Equal e f s t u a b c =
     let back : place_cmp z y ≡ Equal = places_total.antisymm z y ∙ ap ordering_reverse f in

@@ -1,5 +1,6 @@
 -- Notes that come before one another, and a note that is in turn with each of such rows.
-use Rattle.std.proofs.Common.{◌≡◌, refl, sym, ap, ◌∙◌, subst, ℕ, zero, suc, ◌+◌, ◌-◌, ◌<◌, ◌≤◌, Bool, true, false, not, ◌&&◌, ◌||◌, eqb, ltb, List, [], ◌∷◌, length, ◌⊎◌, inl, inr, ◌↔◌, arith, IsTrue, slice_index_or, eq-eqb, eqb-true, ne_eqb, lt-ltb, ltb-true}
+use Rattle.std.proofs.Common.{◌≡◌, refl, sym, ap, ◌∙◌, subst, ℕ, zero, suc, ◌+◌, ◌-◌, ◌<◌, ◌≤◌, Bool, true, false, not, ◌&&◌, ◌||◌, eqb, ltb, List}
+use Rattle.std.proofs.Common.{[], ◌∷◌, length, ◌⊎◌, inl, inr, ◌↔◌, arith, IsTrue, slice_index_or, eq-eqb, eqb-true, ne_eqb, lt-ltb, ltb-true}
 use Rattle.std.proofs.lemmas.Bool.{true≢false, false_from_ne_true, and_parts, and_from, or_cases, or_left, or_right, cases_order, cases_eq, cond-true, cond-false, not-true}
 use Rattle.std.specs.List.{list_all}
 use Rattle.std.specs.List.Sorted.{IsPartitionPoint}
@@ -11,6 +12,8 @@ use Rattle.mr_tables.specs.TableOrders.{InOrder, id_order, id_before-true, id_be
 use Rattle.mr_agree.specs.Agreeing.{Note, are_numbers_in_order}
 use Rattle.mr_audit.proofs.SortedIds.{index_has}
 use Rattle.mr_audit.specs.Turns.{comes_before, is_same_note, are_in_turn, are_two_in_turn, FrontFits, BehindFits}
+use Rattle.mr_model.proofs.RowsOfKnown.{id_apart}
+use Rattle.mr_model.proofs.MembersAlike.{bool_same}
 
 -- ---- commit numbers
 
@@ -54,7 +57,8 @@ later-true a b h = (id_before-true a.id b.id p.0, λ same. go same (or_cases (no
         (ltb-true a.time b.time q.0, numbers-true a.seq b.seq q.1)
 
 pub later_from : (a b : Note) → Later a b → comes_before a b ≡ true
-later_from a b h = and_from (id_before a.id b.id) (not (eqb a.id.server b.id.server) || (ltb a.time b.time && are_numbers_in_order a.seq b.seq)) (id_before_from a.id b.id h.0) (go (cases_eq a.id.server b.id.server))
+later_from a b h = and_from (id_before a.id b.id) (not (eqb a.id.server b.id.server) || (ltb a.time b.time && are_numbers_in_order a.seq b.seq))
+    (id_before_from a.id b.id h.0) (go (cases_eq a.id.server b.id.server))
   where
     go : (a.id.server ≡ b.id.server) ⊎ (a.id.server ≡ b.id.server → ⊥) → (not (eqb a.id.server b.id.server) || (ltb a.time b.time && are_numbers_in_order a.seq b.seq)) ≡ true
     go (inl same) =
@@ -79,21 +83,21 @@ later_trans a b c p q = (
       (omega (arith, x.0, y.0), numbers_trans a.seq b.seq c.seq x.1 y.1),
 )
 
-other_ids : (a b : Id) → IdBefore a b → same_id a b ≡ false
-other_ids a b h = false_from_ne_true (same_id a b) (λ e. id_order.irreflexive a (subst (λ i. id_before a i ≡ true) (sym (same_id-true a b e)) (id_before_from a b h)))
-
 other_ids_back : (a b : Id) → IdBefore a b → same_id b a ≡ false
 other_ids_back a b h = false_from_ne_true (same_id b a) (λ e. id_order.irreflexive a (subst (λ i. id_before a i ≡ true) (same_id-true b a e) (id_before_from a b h)))
 
 -- where one comes before the other, they are in turn in both orders
 pub turn_of_later : (a b : Note) → Later a b → (are_in_turn a b ≡ true) × (are_in_turn b a ≡ true)
 turn_of_later a b h = (
-  cond-false (same_id a.id b.id) (eqb a.time b.time && eqb a.seq b.seq) (not (eqb a.id.server b.id.server && ltb a.id.n b.id.n) || (ltb a.time b.time && are_numbers_in_order a.seq b.seq)) (other_ids a.id b.id h.0) ∙ go (cases_eq a.id.server b.id.server),
-  cond-false (same_id b.id a.id) (eqb b.time a.time && eqb b.seq a.seq) (not (eqb b.id.server a.id.server && ltb b.id.n a.id.n) || (ltb b.time a.time && are_numbers_in_order b.seq a.seq)) (other_ids_back a.id b.id h.0)
+  cond-false (same_id a.id b.id) (eqb a.time b.time && eqb a.seq b.seq) (not (eqb a.id.server b.id.server && ltb a.id.n b.id.n)
+      || (ltb a.time b.time && are_numbers_in_order a.seq b.seq)) (id_apart a.id b.id h.0) ∙ go (cases_eq a.id.server b.id.server),
+  cond-false (same_id b.id a.id) (eqb b.time a.time && eqb b.seq a.seq)
+      (not (eqb b.id.server a.id.server && ltb b.id.n a.id.n) || (ltb b.time a.time && are_numbers_in_order b.seq a.seq)) (other_ids_back a.id b.id h.0)
       ∙ or_left (not (eqb b.id.server a.id.server && ltb b.id.n a.id.n)) (ltb b.time a.time && are_numbers_in_order b.seq a.seq)
       (ap not (false_from_ne_true (eqb b.id.server a.id.server && ltb b.id.n a.id.n)
       (λ e. let q = and_parts (eqb b.id.server a.id.server) (ltb b.id.n a.id.n) e in
-      id_order.irreflexive a.id (id_order.transitive a.id b.id a.id (id_before_from a.id b.id h.0) (id_before_from b.id a.id (inr (eqb-true b.id.server a.id.server q.0, ltb-true b.id.n a.id.n q.1))))))),
+      id_order.irreflexive a.id
+      (id_order.transitive a.id b.id a.id (id_before_from a.id b.id h.0) (id_before_from b.id a.id (inr (eqb-true b.id.server a.id.server q.0, ltb-true b.id.n a.id.n q.1))))))),
 )
   where
     go : (a.id.server ≡ b.id.server) ⊎ (a.id.server ≡ b.id.server → ⊥) → (not (eqb a.id.server b.id.server && ltb a.id.n b.id.n) || (ltb a.time b.time && are_numbers_in_order a.seq b.seq)) ≡ true
@@ -109,20 +113,24 @@ pub later_of_turn : (a b : Note) → IdBefore a.id b.id → are_in_turn a b ≡ 
 later_of_turn a b i h = (
   i,
   λ same. go same i (or_cases (not (eqb a.id.server b.id.server && ltb a.id.n b.id.n)) (ltb a.time b.time && are_numbers_in_order a.seq b.seq)
-      (sym (cond-false (same_id a.id b.id) (eqb a.time b.time && eqb a.seq b.seq) (not (eqb a.id.server b.id.server && ltb a.id.n b.id.n) || (ltb a.time b.time && are_numbers_in_order a.seq b.seq)) (other_ids a.id b.id i)) ∙ h)),
+      (sym (cond-false (same_id a.id b.id) (eqb a.time b.time && eqb a.seq b.seq)
+      (not (eqb a.id.server b.id.server && ltb a.id.n b.id.n) || (ltb a.time b.time && are_numbers_in_order a.seq b.seq)) (id_apart a.id b.id i)) ∙ h)),
 )
   where
-    go : a.id.server ≡ b.id.server → IdBefore a.id b.id → (not (eqb a.id.server b.id.server && ltb a.id.n b.id.n) ≡ true) ⊎ ((ltb a.time b.time && are_numbers_in_order a.seq b.seq) ≡ true) → (a.time < b.time) × Numbers a.seq b.seq
+    go : a.id.server ≡ b.id.server → IdBefore a.id b.id → (not (eqb a.id.server b.id.server && ltb a.id.n b.id.n) ≡ true)
+        ⊎ ((ltb a.time b.time && are_numbers_in_order a.seq b.seq) ≡ true) → (a.time < b.time) × Numbers a.seq b.seq
     go same k (inr e) =
         let q = and_parts (ltb a.time b.time) (are_numbers_in_order a.seq b.seq) e in
         (ltb-true a.time b.time q.0, numbers-true a.seq b.seq q.1)
     go same (inl l) (inl n) = absurd (omega (arith, l, same))
     go same (inr p) (inl n) =
-        absurd (true≢false (sym (and_from (eqb a.id.server b.id.server) (ltb a.id.n b.id.n) (eq-eqb a.id.server b.id.server p.0) (lt-ltb a.id.n b.id.n p.1)) ∙ not-true (eqb a.id.server b.id.server && ltb a.id.n b.id.n) n))
+        absurd (true≢false (sym (and_from (eqb a.id.server b.id.server) (ltb a.id.n b.id.n) (eq-eqb a.id.server b.id.server p.0) (lt-ltb a.id.n b.id.n p.1))
+        ∙ not-true (eqb a.id.server b.id.server && ltb a.id.n b.id.n) n))
 
 pub turn_self : (a : Note) → are_in_turn a a ≡ true
 turn_self a =
-    cond-true (same_id a.id a.id) (eqb a.time a.time && eqb a.seq a.seq) (not (eqb a.id.server a.id.server && ltb a.id.n a.id.n) || (ltb a.time a.time && are_numbers_in_order a.seq a.seq)) (same_id_refl a.id)
+    cond-true (same_id a.id a.id) (eqb a.time a.time && eqb a.seq a.seq)
+    (not (eqb a.id.server a.id.server && ltb a.id.n a.id.n) || (ltb a.time a.time && are_numbers_in_order a.seq a.seq)) (same_id_refl a.id)
     ∙ and_from (eqb a.time a.time) (eqb a.seq a.seq) (eq-eqb a.time a.time refl) (eq-eqb a.seq a.seq refl)
 
 same_note : (a b : Note) → is_same_note a b ≡ true → a ≡ b
@@ -138,7 +146,8 @@ same_of_turn : (a b : Note) → a.id ≡ b.id → are_in_turn a b ≡ true → i
 same_of_turn a b e h =
     let ids = same_id_from a.id b.id e in
     and_from (same_id a.id b.id) (eqb a.time b.time && eqb a.seq b.seq) ids
-    (sym (cond-true (same_id a.id b.id) (eqb a.time b.time && eqb a.seq b.seq) (not (eqb a.id.server b.id.server && ltb a.id.n b.id.n) || (ltb a.time b.time && are_numbers_in_order a.seq b.seq)) ids) ∙ h)
+    (sym (cond-true (same_id a.id b.id) (eqb a.time b.time && eqb a.seq b.seq) (not (eqb a.id.server b.id.server && ltb a.id.n b.id.n) || (ltb a.time b.time && are_numbers_in_order a.seq b.seq)) ids)
+    ∙ h)
 
 -- ---- rows in turn
 
@@ -152,7 +161,8 @@ ids_in_order note (x ∷ rows) s = (
 )
 
 -- of two rows in order the one in front is before the other
-pub sorted_at : {R K : Type 0} (before : K → K → Bool) (key : R → K) (rows : List R) → InOrder before key rows → (j k : ℕ) (d : R) → j < k → k < length rows → before (key (slice_index_or rows j d)) (key (slice_index_or rows k d)) ≡ true
+pub sorted_at : {R K : Type 0} (before : K → K → Bool) (key : R → K) (rows : List R) → InOrder before key rows
+    → (j k : ℕ) (d : R) → j < k → k < length rows → before (key (slice_index_or rows j d)) (key (slice_index_or rows k d)) ≡ true
 sorted_at before key [] s j k d l m = absurd (omega (arith, m))
 sorted_at before key (x ∷ rows) s j zero d l m = absurd (omega (arith, l))
 sorted_at before key (x ∷ rows) s zero (suc k) d l m = all_has (λ y. before (key x) (key y) ≡ true) (slice_index_or rows k d) rows s.0 (index_has rows k d (omega (arith, m)))
@@ -167,12 +177,8 @@ index_all p [] h k d l = absurd (omega (arith, l))
 index_all p (x ∷ rows) h zero d l = (and_parts (p x) (list_all p rows) h).0
 index_all p (x ∷ rows) h (suc k) d l = index_all p rows (and_parts (p x) (list_all p rows) h).1 k d (omega (arith, l))
 
-pub same_tests : (a b : Bool) → (a ≡ true → b ≡ true) → (b ≡ true → a ≡ true) → a ≡ b
-same_tests true b f g = sym (f refl)
-same_tests false true f g = g refl
-same_tests false false f g = refl
-
-module _ {R : Type 0} (note : R → Note) (rows : List R) (a : Note) (at : ℕ) (order : InOrder comes_before note rows) (bound : at ≤ length rows) (point : IsPartitionPoint (λ r. id_before (note r).id a.id ≡ true) (λ r. id_before (note r).id a.id ≡ false) rows at) where
+module _ {R : Type 0} (note : R → Note) (rows : List R) (a : Note) (at : ℕ) (order : InOrder comes_before note rows) (bound : at ≤ length rows)
+    (point : IsPartitionPoint (λ r. id_before (note r).id a.id ≡ true) (λ r. id_before (note r).id a.id ≡ false) rows at) where
   all_fit : FrontFits note rows at a → BehindFits note rows at a → (k : ℕ) (d : R) → k < length rows → are_two_in_turn a (note (slice_index_or rows k d)) ≡ true
   all_fit front behind k d l = side (cases_order (k + 1) at)
     where
@@ -197,9 +203,11 @@ module _ {R : Type 0} (note : R → Note) (rows : List R) (a : Note) (at : ℕ) 
 
       beyond : at < k → (is_same_note a (note (slice_index_or rows at d)) ≡ true) ⊎ (comes_before a (note (slice_index_or rows at d)) ≡ true) → are_two_in_turn a row ≡ true
       beyond m (inl e) =
-          after (subst (λ x. Later x row) (sym (same_note a (note (slice_index_or rows at d)) e)) (later-true (note (slice_index_or rows at d)) row (sorted_at comes_before note rows order at k d m l)))
+          after (subst (λ x. Later x row) (sym (same_note a (note (slice_index_or rows at d)) e))
+          (later-true (note (slice_index_or rows at d)) row (sorted_at comes_before note rows order at k d m l)))
       beyond m (inr e) =
-          after (later_trans a (note (slice_index_or rows at d)) row (later-true a (note (slice_index_or rows at d)) e) (later-true (note (slice_index_or rows at d)) row (sorted_at comes_before note rows order at k d m l)))
+          after (later_trans a (note (slice_index_or rows at d)) row (later-true a (note (slice_index_or rows at d)) e)
+          (later-true (note (slice_index_or rows at d)) row (sorted_at comes_before note rows order at k d m l)))
 
       place : (k ≡ at) ⊎ ((k < at) ⊎ (at < k)) → at < k + 1 → are_two_in_turn a row ≡ true
       place (inl e) m = at_place (or_cases (is_same_note a row) (comes_before a row) (here e))
@@ -211,7 +219,8 @@ module _ {R : Type 0} (note : R → Note) (rows : List R) (a : Note) (at : ℕ) 
       side (inr (inl e)) =
           let one : (at - 1) + 1 ≡ at = omega (arith, e) in
           let last = note (slice_index_or rows (at - 1) d) in
-          before (later_trans row last a (later-true row last (sorted_at comes_before note rows order k (at - 1) d (omega (arith, e)) (omega (arith, e, bound)))) (later-true last a (front (at - 1) d one)))
+          before (later_trans row last a (later-true row last (sorted_at comes_before note rows order k (at - 1) d (omega (arith, e)) (omega (arith, e, bound))))
+          (later-true last a (front (at - 1) d one)))
       side (inr (inr e)) = place (cases_order k at) e
 
   fit_front : ((k : ℕ) (d : R) → k < length rows → are_two_in_turn a (note (slice_index_or rows k d)) ≡ true) → FrontFits note rows at a
@@ -236,6 +245,6 @@ module _ {R : Type 0} (note : R → Note) (rows : List R) (a : Note) (at : ℕ) 
 
   pub fitting : (f b : Bool) → IsTrue f ↔ FrontFits note rows at a → IsTrue b ↔ BehindFits note rows at a → (f && b) ≡ list_all (λ r. are_two_in_turn a (note r)) rows
   fitting f b front behind =
-      same_tests (f && b) (list_all (λ r. are_two_in_turn a (note r)) rows)
+      bool_same (f && b) (list_all (λ r. are_two_in_turn a (note r)) rows)
       (λ t. let p = and_parts f b t in all_index (λ r. are_two_in_turn a (note r)) rows (all_fit (front.0 p.0) (behind.0 p.1)))
       (λ t. let all = index_all (λ r. are_two_in_turn a (note r)) rows t in and_from f b (front.1 (fit_front all)) (behind.1 (fit_behind all)))

@@ -6,7 +6,8 @@ use Rattle.mr_model.specs.Tables.{Tables, BookingRow}
 use Rattle.mr_model.specs.Slots.{is_slot}
 use Rattle.mr_model.specs.Changes.{AreInKeyOrder}
 use Rattle.mr_model.specs.Queries.{booking_id, error_id, cancelled_id, cancel_id, log_id}
-use Rattle.mr_agree.specs.Agreeing.{does_meta_agree, do_counts_agree, do_ids_agree, do_marks_agree, do_rooms_agree, does_log_agree, is_log_whole, notes, does_time_agree, do_places_agree, do_cancels_agree, are_rows_apart, is_span, do_spans_agree, do_limits_agree, agree}
+use Rattle.mr_agree.specs.Agreeing.{does_meta_agree, do_counts_agree, do_ids_agree, do_marks_agree, do_rooms_agree, does_log_agree, is_log_whole, notes}
+use Rattle.mr_agree.specs.Agreeing.{does_time_agree, do_places_agree, do_cancels_agree, are_rows_apart, is_span, do_spans_agree, do_limits_agree, agree}
 use Rattle.mr_audit.specs.KeyOrders.{AreByRisingId}
 use Rattle.mr_audit.specs.Apart.{are_numbers_single, is_positive}
 use Rattle.mr_audit.specs.Turns.{are_all_in_turn}
@@ -16,7 +17,8 @@ use Rattle.mr_audit.proofs.TablesInTurn.{all_two}
 
 -- ---- the parts in another order
 
-regrouped : (m c i k r l w x y n p g a u z : Bool) → (m && c && i && k && r && l && w && (x && (y && n)) && p && g && a && u && z) ≡ ((m && c && i && k && r && l && w && x && y && p && g && u && z) && (a && n))
+regrouped : (m c i k r l w x y n p g a u z : Bool)
+    → (m && c && i && k && r && l && w && (x && (y && n)) && p && g && a && u && z) ≡ ((m && c && i && k && r && l && w && x && y && p && g && u && z) && (a && n))
 regrouped false c i k r l w x y n p g a u z = refl
 regrouped true false i k r l w x y n p g a u z = refl
 regrouped true true false k r l w x y n p g a u z = refl
@@ -46,7 +48,8 @@ parts_tell t =
     (λ i. does_meta_agree t && do_counts_agree t && do_ids_agree t && do_marks_agree t && do_rooms_agree t && does_log_agree t && is_log_whole t
     && (list_all (does_time_agree t) (notes t) && all_two t i) && do_places_agree t && do_cancels_agree t && are_rows_apart t.booking && do_spans_agree t
     && do_limits_agree t)
-    ∙ regrouped (does_meta_agree t) (do_counts_agree t) (do_ids_agree t) (do_marks_agree t) (do_rooms_agree t) (does_log_agree t) (is_log_whole t) (list_all (does_time_agree t) (notes t)) (are_all_in_turn t) (are_numbers_single t) (do_places_agree t) (do_cancels_agree t) (are_rows_apart t.booking) (do_spans_agree t) (do_limits_agree t)
+    ∙ regrouped (does_meta_agree t) (do_counts_agree t) (do_ids_agree t) (do_marks_agree t) (do_rooms_agree t) (does_log_agree t) (is_log_whole t) (list_all (does_time_agree t) (notes t))
+    (are_all_in_turn t) (are_numbers_single t) (do_places_agree t) (do_cancels_agree t) (are_rows_apart t.booking) (do_spans_agree t) (do_limits_agree t)
 
 -- ---- spans
 

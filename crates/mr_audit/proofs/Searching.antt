@@ -34,7 +34,8 @@ at_follow P [] i d low a = absurd (omega (arith, low))
 at_follow P (x ∷ xs) zero d low a = a.0
 at_follow P (x ∷ xs) (suc i) d low a = at_follow P xs i d (omega (arith, low)) a.1
 
-one_decides : {X K : Type 0} {R : K → K → Ordering} (o : IsTotalOrder R) (key : X → K) (k : K) (p : X → Bool) → ((y : X) → p y ≡ true → R (key y) k ≡ Equal) → (xs : List X) → Follow (λ x y. R (key x) (key y) ≡ Less) xs → (i : ℕ) (d : X) → i < length xs → R (key (get_or xs i d)) k ≡ Equal → list_any p xs ≡ p (get_or xs i d)
+one_decides : {X K : Type 0} {R : K → K → Ordering} (o : IsTotalOrder R) (key : X → K) (k : K) (p : X → Bool) → ((y : X) → p y ≡ true → R (key y) k ≡ Equal)
+    → (xs : List X) → Follow (λ x y. R (key x) (key y) ≡ Less) xs → (i : ℕ) (d : X) → i < length xs → R (key (get_or xs i d)) k ≡ Equal → list_any p xs ≡ p (get_or xs i d)
 one_decides o key k p asks [] f i d low e = absurd (omega (arith, low))
 one_decides {R = R} o key k p asks (x ∷ xs) f zero d low e =
     or_none (p x) (list_any p xs) (none_passes (λ y. R (key x) (key y) ≡ Less) p (λ y l. false_from_ne_true (p y) (λ t. apart_keys o k (key x) (key y) e (asks y t) l)) xs f.0)
@@ -44,13 +45,16 @@ one_decides {R = R} o key k p asks (x ∷ xs) f (suc i) d low e =
     ap (λ b. b || list_any p xs) first ∙ one_decides o key k p asks xs f.1 i d later e
 
 -- one of this key is found
-pub found_one : {X K : Type 0} {R : K → K → Ordering} (o : IsTotalOrder R) (key : X → K) (k : K) (p : X → Bool) → ((y : X) → p y ≡ true → R (key y) k ≡ Equal) → (xs : List X) → KeysRise R key xs → (i : ℕ) (d : X) → i < length xs → R (key (get_or xs i d)) k ≡ Equal → list_any p xs ≡ p (get_or xs i d)
+pub found_one : {X K : Type 0} {R : K → K → Ordering} (o : IsTotalOrder R) (key : X → K) (k : K) (p : X → Bool) → ((y : X) → p y ≡ true → R (key y) k ≡ Equal)
+    → (xs : List X) → KeysRise R key xs → (i : ℕ) (d : X) → i < length xs → R (key (get_or xs i d)) k ≡ Equal → list_any p xs ≡ p (get_or xs i d)
 found_one {R = R} o key k p asks xs rise i d low e =
     one_decides o key k p asks xs
     (follow_all (λ x y. R (key x) (key y) ≡ Less) (λ x. Unit {0}) (λ x y z good f g. o.trans (key x) (key y) (key z) f g) xs (λ j d' l. tt) rise) i d low e
 
 -- none of this key is found
-pub found_none : {X K : Type 0} {R : K → K → Ordering} (o : IsTotalOrder R) (key : X → K) (k : K) (p : X → Bool) → ((y : X) → p y ≡ true → R (key y) k ≡ Equal) → (xs : List X) → KeysRise R key xs → (i : ℕ) → (IsNonDecreasingBy (λ y. ordering_index (R (key y) k)) xs → IsPartitionPoint (λ y. R (key y) k ≡ Less) (λ y. R (key y) k ≡ Greater) xs i) → list_any p xs ≡ false
+pub found_none : {X K : Type 0} {R : K → K → Ordering} (o : IsTotalOrder R) (key : X → K) (k : K) (p : X → Bool)
+    → ((y : X) → p y ≡ true → R (key y) k ≡ Equal) → (xs : List X) → KeysRise R key xs → (i : ℕ)
+    → (IsNonDecreasingBy (λ y. ordering_index (R (key y) k)) xs → IsPartitionPoint (λ y. R (key y) k ≡ Less) (λ y. R (key y) k ≡ Greater) xs i) → list_any p xs ≡ false
 found_none {R = R} o key k p asks xs rise i parted =
     list_any_none p xs (λ j d low. false_from_ne_true (p (get_or xs j d)) (λ t. go j d low (asks (get_or xs j d) t) (cases_lt j i)))
   where

@@ -16,7 +16,8 @@ after_with_space : (t : Text) → (after_word (t ++ 32 ∷ []) ≡ after_word t 
 after_with_space [] = inr (refl, refl)
 after_with_space (c ∷ cs) = go (is_space c) (after_with_space cs)
   where
-    go : (b : Bool) → (after_word (cs ++ 32 ∷ []) ≡ after_word cs ++ 32 ∷ []) ⊎ ((after_word (cs ++ 32 ∷ []) ≡ []) × (after_word cs ≡ [])) → (cond b (cs ++ 32 ∷ []) (after_word (cs ++ 32 ∷ [])) ≡ cond b cs (after_word cs) ++ 32 ∷ []) ⊎ ((cond b (cs ++ 32 ∷ []) (after_word (cs ++ 32 ∷ [])) ≡ []) × (cond b cs (after_word cs) ≡ []))
+    go : (b : Bool) → (after_word (cs ++ 32 ∷ []) ≡ after_word cs ++ 32 ∷ []) ⊎ ((after_word (cs ++ 32 ∷ []) ≡ []) × (after_word cs ≡ []))
+        → (cond b (cs ++ 32 ∷ []) (after_word (cs ++ 32 ∷ [])) ≡ cond b cs (after_word cs) ++ 32 ∷ []) ⊎ ((cond b (cs ++ 32 ∷ []) (after_word (cs ++ 32 ∷ [])) ≡ []) × (cond b cs (after_word cs) ≡ []))
     go true h = inl refl
     go false h = h
 
@@ -24,7 +25,8 @@ words_with_space : (j : ℕ) (t : Text) → word_at j (t ++ 32 ∷ []) ≡ word_
 words_with_space zero t = word_with_space t
 words_with_space (suc j) t = go (after_with_space t) (words_with_space j (after_word t))
   where
-    go : (after_word (t ++ 32 ∷ []) ≡ after_word t ++ 32 ∷ []) ⊎ ((after_word (t ++ 32 ∷ []) ≡ []) × (after_word t ≡ [])) → word_at j (after_word t ++ 32 ∷ []) ≡ word_at j (after_word t) → word_at j (after_word (t ++ 32 ∷ [])) ≡ word_at j (after_word t)
+    go : (after_word (t ++ 32 ∷ []) ≡ after_word t ++ 32 ∷ []) ⊎ ((after_word (t ++ 32 ∷ []) ≡ []) × (after_word t ≡ []))
+        → word_at j (after_word t ++ 32 ∷ []) ≡ word_at j (after_word t) → word_at j (after_word (t ++ 32 ∷ [])) ≡ word_at j (after_word t)
     go (inl e) ih = ap (word_at j) e ∙ ih
     go (inr p) ih = ap (word_at j) (p.0 ∙ sym p.1)
 
@@ -60,7 +62,8 @@ slot_missing (suc n) i (suc k) l h = slot_missing n (i + 2) k l (omega (arith, h
 pub no_slot : (t : Text) (k n : ℕ) → n ≡ Rattle.std.proofs.Common.◌/◌ (length t + 1) 17 → n ≤ k → slice_get (slots_in t) k ≡ None
 no_slot t k n e h = slot_missing _ 0 k (t ++ 32 ∷ []) (subst (λ m. m ≤ k) e h)
 
-pub slot_of_words : (t day rest time : Text) (k n : ℕ) → n ≡ Rattle.std.proofs.Common.◌/◌ (length t + 1) 17 → k < n → day ≡ first_word (behind (2 * k) t) → rest ≡ after_word (behind (2 * k) t) → time ≡ first_word rest → slice_get (slots_in t) k ≡ Some (slot_in day time)
+pub slot_of_words : (t day rest time : Text) (k n : ℕ) → n ≡ Rattle.std.proofs.Common.◌/◌ (length t + 1) 17 → k < n → day ≡ first_word (behind (2 * k) t)
+    → rest ≡ after_word (behind (2 * k) t) → time ≡ first_word rest → slice_get (slots_in t) k ≡ Some (slot_in day time)
 slot_of_words t day rest time k n e h d r m =
     let second : behind (2 * k + 1) t ≡ rest = ap (λ j. behind j t) (Rattle.std.proofs.Common.add-one (2 * k)) ∙ behind_more (2 * k) t ∙ sym r in
     let zeroth : 0 + 2 * k ≡ 2 * k = omega arith in

@@ -109,7 +109,8 @@ module _ {R : Type 0} (key : R → Id) (id : Id) (rows : List R) where
   parted_behind order i j d l m is =
       sym (before_next (key (slice_index_or rows i d)) id) ∙ parted key (next_id id) rows order i j d l m (before_next (key (slice_index_or rows j d)) id ∙ is)
 
-  pub next_point : (at : ℕ) → IsPartitionPoint (λ r. not (id_before id (key r)) ≡ true) (λ r. not (id_before id (key r)) ≡ false) rows at → IsPartitionPoint (λ r. id_before (key r) (next_id id) ≡ true) (λ r. id_before (key r) (next_id id) ≡ false) rows at
+  pub next_point : (at : ℕ) → IsPartitionPoint (λ r. not (id_before id (key r)) ≡ true) (λ r. not (id_before id (key r)) ≡ false) rows at
+      → IsPartitionPoint (λ r. id_before (key r) (next_id id) ≡ true) (λ r. id_before (key r) (next_id id) ≡ false) rows at
   next_point at point = (
     λ k d l m. before_next (key (slice_index_or rows k d)) id ∙ point.0 k d l m,
     λ k d l m. before_next (key (slice_index_or rows k d)) id ∙ point.1 k d l m,

@@ -13,21 +13,17 @@ use Rattle.mr_model.specs.Replica.{text_before}
 use Rattle.mr_tables.specs.Rise.{Rise}
 use Rattle.mr_tables.proofs.Naming.{before-cmp}
 use Rattle.mr_audit.proofs.Searching.{KeysRise}
-
-is_less : (o : Ordering) → is_lt o ≡ true → o ≡ Less
-is_less Less e = refl
-is_less Equal e = absurd (true≢false (sym e))
-is_less Greater e = absurd (true≢false (sym e))
+use Rattle.mr_replay.proofs.IdKeys.{is_lt-Less}
 
 -- what compares alike both ways
-itself : (o : Ordering) → o ≡ ordering_reverse o → o ≡ Equal
+pub itself : (o : Ordering) → o ≡ ordering_reverse o → o ≡ Equal
 itself Less e = absurd (true≢false (λ i. is_lt (e i)))
 itself Equal e = refl
 itself Greater e = absurd (true≢false (λ i. is_lt (sym e i)))
 
 pub names_rise : (rooms : List Text) → Rise text_before (λ name. name) rooms → KeysRise (slice_cmp nat_cmp) (λ (name : Text). name) rooms
 names_rise rooms rise k d low =
-    is_less (slice_cmp nat_cmp (get_or rooms k d) (get_or rooms (k + 1) d)) (before-cmp (get_or rooms k d) (get_or rooms (k + 1) d) ∙ rise k d low)
+    is_lt-Less (slice_cmp nat_cmp (get_or rooms k d) (get_or rooms (k + 1) d)) (before-cmp (get_or rooms k d) (get_or rooms (k + 1) d) ∙ rise k d low)
 
 -- a name and a name that is equal
 pub names_alike : (room name : Text) → bytes_eq room name ≡ true → slice_cmp nat_cmp name room ≡ Equal

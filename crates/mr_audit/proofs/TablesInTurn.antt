@@ -14,8 +14,9 @@ use Rattle.mr_agree.proofs.AgreeCounts.{all_true}
 use Rattle.mr_audit.specs.KeyOrders.{AreByRisingId}
 use Rattle.mr_audit.specs.Turns.{comes_before, are_in_turn, are_two_in_turn, are_all_in_turn, AreChains, AreInTurn, are_fitting, are_tables_fitting}
 use Rattle.mr_audit.specs.Apart.{do_numbers_differ, are_numbers_single}
-use Rattle.mr_audit.proofs.IdsApart.{and-true}
-use Rattle.mr_audit.proofs.NotesInTurn.{later-true, later_from, later_trans, later_of_turn, turn_of_later, turn_self, sorted_at, same_tests}
+use Rattle.mr_audit.proofs.IdsApart.{and-true, crossed}
+use Rattle.mr_audit.proofs.NotesInTurn.{later-true, later_from, later_trans, later_of_turn, turn_of_later, turn_self, sorted_at}
+use Rattle.mr_model.proofs.MembersAlike.{bool_same}
 
 -- ---- one table
 
@@ -29,28 +30,33 @@ chain_in_order {R} note (x ∷ rows) rise =
     in
     (first rows (rise 0 x) later, later)
   where
-    first : (ys : List R) → (0 + 1 < length (x ∷ ys) → comes_before (note x) (note (slice_index_or (x ∷ ys) 1 x)) ≡ true) → InOrder comes_before note ys → AllByRecursion (λ y. comes_before (note x) (note y) ≡ true) ys
+    first : (ys : List R) → (0 + 1 < length (x ∷ ys) → comes_before (note x) (note (slice_index_or (x ∷ ys) 1 x)) ≡ true)
+        → InOrder comes_before note ys → AllByRecursion (λ y. comes_before (note x) (note y) ≡ true) ys
     first [] b s = tt
     first (y ∷ ys) b s =
         let l = b (omega arith) in (
           l,
           has_all (λ z. comes_before (note x) (note z) ≡ true) ys
-              (λ z h. later_from (note x) (note z) (later_trans (note x) (note y) (note z) (later-true (note x) (note y) l) (later-true (note y) (note z) (all_has (λ u. comes_before (note y) (note u) ≡ true) z ys s.0 h)))),
+              (λ z h. later_from (note x) (note z)
+              (later_trans (note x) (note y) (note z) (later-true (note x) (note y) l) (later-true (note y) (note z) (all_has (λ u. comes_before (note y) (note u) ≡ true) z ys s.0 h)))),
         )
 
 pub in_order_chain : {R : Type 0} (note : R → Note) (rows : List R) → InOrder comes_before note rows → Rise comes_before note rows
 in_order_chain note rows s = λ k d l. sorted_at comes_before note rows s k (k + 1) d (omega arith) l
 
 -- rows by rising id that are in turn by pairs
-pub turn_in_order : {R : Type 0} (note : R → Note) (rows : List R) → InOrder id_before (λ r. (note r).id) rows → ((x y : R) → Has x rows → Has y rows → are_in_turn (note x) (note y) ≡ true) → InOrder comes_before note rows
+pub turn_in_order : {R : Type 0} (note : R → Note) (rows : List R) → InOrder id_before (λ r. (note r).id) rows
+    → ((x y : R) → Has x rows → Has y rows → are_in_turn (note x) (note y) ≡ true) → InOrder comes_before note rows
 turn_in_order note [] s f = tt
 turn_in_order note (x ∷ rows) s f = (
   has_all (λ y. comes_before (note x) (note y) ≡ true) rows
-      (λ y h. later_from (note x) (note y) (later_of_turn (note x) (note y) (id_before-true (note x).id (note y).id (all_has (λ u. id_before (note x).id (note u).id ≡ true) y rows s.0 h)) (f x y (inl refl) (inr h)))),
+      (λ y h. later_from (note x) (note y)
+      (later_of_turn (note x) (note y) (id_before-true (note x).id (note y).id (all_has (λ u. id_before (note x).id (note u).id ≡ true) y rows s.0 h)) (f x y (inl refl) (inr h)))),
   turn_in_order note rows s.1 (λ u v h k. f u v (inr h) (inr k)),
 )
 
-two_in_order : {R : Type 0} (note : R → Note) (x y : R) (rows : List R) → InOrder comes_before note rows → Has x rows → Has y rows → (x ≡ y) ⊎ ((comes_before (note x) (note y) ≡ true) ⊎ (comes_before (note y) (note x) ≡ true))
+two_in_order : {R : Type 0} (note : R → Note) (x y : R) (rows : List R) → InOrder comes_before note rows → Has x rows
+    → Has y rows → (x ≡ y) ⊎ ((comes_before (note x) (note y) ≡ true) ⊎ (comes_before (note y) (note x) ≡ true))
 two_in_order note x y [] s h k = absurd h
 two_in_order note x y (z ∷ zs) s (inl p) (inl q) = inl (p ∙ sym q)
 two_in_order note x y (z ∷ zs) s (inl p) (inr k) =
@@ -132,13 +138,16 @@ module _ (t : Tables) where
 
   pub turn_chains : AreByRisingId t → are_all_in_turn t ≡ true → AreChains t
   turn_chains o all = record {
-    log = in_order_chain log_note t.log (turn_in_order log_note t.log o.log (λ x y h k. all_turned (notes t) all (log_note x) (log_note y) (in_log (log_note x) (has_map log_note x t.log h)) (in_log (log_note y) (has_map log_note y t.log k))));
-    errorlog = in_order_chain error_note t.errorlog (turn_in_order error_note t.errorlog o.errorlog (λ x y h k. all_turned (notes t) all (error_note x) (error_note y) (in_errors (error_note x) (has_map error_note x t.errorlog h)) (in_errors (error_note y) (has_map error_note y t.errorlog k))));
-    cancels = in_order_chain cancel_note t.cancels (turn_in_order cancel_note t.cancels o.cancels (λ x y h k. all_turned (notes t) all (cancel_note x) (cancel_note y) (in_cancels (cancel_note x) (has_map cancel_note x t.cancels h)) (in_cancels (cancel_note y) (has_map cancel_note y t.cancels k))));
+    log = in_order_chain log_note t.log (turn_in_order log_note t.log o.log
+        (λ x y h k. all_turned (notes t) all (log_note x) (log_note y) (in_log (log_note x) (has_map log_note x t.log h)) (in_log (log_note y) (has_map log_note y t.log k))));
+    errorlog = in_order_chain error_note t.errorlog (turn_in_order error_note t.errorlog o.errorlog (λ x y h k. all_turned (notes t) all (error_note x)
+        (error_note y) (in_errors (error_note x) (has_map error_note x t.errorlog h)) (in_errors (error_note y) (has_map error_note y t.errorlog k))));
+    cancels = in_order_chain cancel_note t.cancels (turn_in_order cancel_note t.cancels o.cancels (λ x y h k. all_turned (notes t) all (cancel_note x)
+        (cancel_note y) (in_cancels (cancel_note x) (has_map cancel_note x t.cancels h)) (in_cancels (cancel_note y) (has_map cancel_note y t.cancels k))));
   }
 
   pub tables_fitting : AreInTurn t → are_tables_fitting t ≡ are_all_in_turn t
-  tables_fitting o = same_tests (are_tables_fitting t) (are_all_in_turn t) there back
+  tables_fitting o = bool_same (are_tables_fitting t) (are_all_in_turn t) there back
     where
       there : are_tables_fitting t ≡ true → are_all_in_turn t ≡ true
       there h =
@@ -173,12 +182,6 @@ parted_test false x true true = refl
 parted_test false x true false = refl
 parted_test false x false true = refl
 parted_test false x false false = refl
-
-crossed : (a b c d : Bool) → ((a && b) && (c && d)) ≡ ((a && c) && (b && d))
-crossed true true c d = refl
-crossed true false true d = refl
-crossed true false false d = refl
-crossed false b c d = refl
 
 all_both : {A : Type 0} (p q : A → Bool) (xs : List A) → list_all (λ x. p x && q x) xs ≡ (list_all p xs && list_all q xs)
 all_both p q [] = refl

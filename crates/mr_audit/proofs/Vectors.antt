@@ -24,7 +24,8 @@ note_first rows row ts small told s = go (cases_eq s row.server)
         ∙ sym (ap row_tally (cond-false (eqb row.server s) row (vector_in rows s) (false_from_ne_true (eqb row.server s) (λ e. other (sym (eqb-true row.server s e))))))
 
 -- the same where the rows that are noted are the last of a list
-pub note_before : (rows : List VectorRow) (k : ℕ) (row : VectorRow) (ts : List Tally) → k < length rows → row ≡ get_or rows (length rows - 1 - k) row → row.server < length ts → TellTheVector (drop (length rows - k) rows) ts → TellTheVector (drop (length rows - (k + 1)) rows) (slice_set ts row.server (row_tally row))
+pub note_before : (rows : List VectorRow) (k : ℕ) (row : VectorRow) (ts : List Tally) → k < length rows → row ≡ get_or rows (length rows - 1 - k) row
+    → row.server < length ts → TellTheVector (drop (length rows - k) rows) ts → TellTheVector (drop (length rows - (k + 1)) rows) (slice_set ts row.server (row_tally row))
 note_before rows k row ts low at small told =
     let i = length rows - 1 - k in
     let here : i ≡ length rows - (k + 1) = omega arith in

@@ -2,7 +2,8 @@
 use Rattle.std.specs.Prelude.{Bool, ◌&&◌}
 use Rattle.std.specs.List.{list_all}
 use Rattle.mr_model.specs.Tables.{Tables}
-use Rattle.mr_agree.specs.Agreeing.{does_meta_agree, do_counts_agree, do_ids_agree, do_marks_agree, do_rooms_agree, does_log_agree, is_log_whole, notes, does_time_agree, do_places_agree, do_cancels_agree, do_spans_agree, do_limits_agree}
+use Rattle.mr_agree.specs.Agreeing.{does_meta_agree, do_counts_agree, do_ids_agree, do_marks_agree, do_rooms_agree, does_log_agree}
+use Rattle.mr_agree.specs.Agreeing.{is_log_whole, notes, does_time_agree, do_places_agree, do_cancels_agree, do_spans_agree, do_limits_agree}
 use Rattle.mr_audit.specs.Turns.{are_all_in_turn}
 
 -- all but that bookings don't overlap and that no commit number is that of two writes

@@ -11,5 +11,5 @@ abbrev pub TellTheVector : List VectorRow → List Tally → Type 0
 TellTheVector rows ts = (s : ℕ) → tally_at ts s ≡ row_tally (vector_in rows s)
 
 -- whether a write is among the first of its server, which are the committed ones
-abbrev pub is_first : List Tally → ℕ → ℕ → Bool
-is_first ts server n = nat_le n (tally_at ts server).committed
+abbrev pub is_first_of_server : List Tally → ℕ → ℕ → Bool
+is_first_of_server ts server n = nat_le n (tally_at ts server).committed

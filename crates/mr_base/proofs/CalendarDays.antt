@@ -146,5 +146,6 @@ weekday-number y m d low high lo hi first =
     let months : days_of_months (pos y) (m - 1) ≡ sum (take (m - 1) (month_lengths y)) = months-before y (m - 1) low high (omega arith) in
     by_parts (days_in_years (y - 1990)) (sum (take (m - 1) (month_lengths y))) years count months
   where
-    by_parts : (years months : ℕ) → day_count (pos y) 1 1 ≡ years + 4_379_258 → day_count (pos y) m d + 1 ≡ day_count (pos y) 1 1 + (days_of_months (pos y) (m - 1) + d) → days_of_months (pos y) (m - 1) ≡ months → weekday_number (days_from_civil (pos y) m d) ≡ (years + months + (d - 1)) % 7
+    by_parts : (years months : ℕ) → day_count (pos y) 1 1 ≡ years + 4_379_258 → day_count (pos y) m d + 1 ≡ day_count (pos y) 1 1 + (days_of_months (pos y) (m - 1) + d)
+        → days_of_months (pos y) (m - 1) ≡ months → weekday_number (days_from_civil (pos y) m d) ≡ (years + months + (d - 1)) % 7
     by_parts years months a b c = omega (arith, weekday_number-parts (days_from_civil (pos y) m d), days_from_civil-day_count (pos y) m d)

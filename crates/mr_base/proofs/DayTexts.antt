@@ -12,7 +12,8 @@ use Rattle.mr_base.specs.Readings.{pair_in, date_if, date_of_parts, date_by_digi
 use Rattle.mr_base.proofs.Readers.{bytes_same, same_bytes, only_if_true, same_reading, ok_written, when_is, pair_is, pair-digits}
 
 -- a list of ten is that of its elements
-ten : (s : Text) → length s ≡ 10 → s ≡ slice_index s 0 ∷ slice_index s 1 ∷ slice_index s 2 ∷ slice_index s 3 ∷ slice_index s 4 ∷ slice_index s 5 ∷ slice_index s 6 ∷ slice_index s 7 ∷ slice_index s 8 ∷ slice_index s 9 ∷ []
+ten : (s : Text) → length s ≡ 10 → s ≡ slice_index s 0 ∷ slice_index s 1 ∷ slice_index s 2 ∷ slice_index s 3 ∷
+    slice_index s 4 ∷ slice_index s 5 ∷ slice_index s 6 ∷ slice_index s 7 ∷ slice_index s 8 ∷ slice_index s 9 ∷ []
 ten (a ∷ b ∷ c ∷ d ∷ e ∷ f ∷ g ∷ h ∷ i ∷ j ∷ []) p = refl
 ten _ p = absurd (omega arith)
 
@@ -41,7 +42,9 @@ date_frame : (s : Text) → ((length s == 10) && (slice_index s 4 == 45) && (sli
 date_frame s e = grind (arith, nat_tests)
 
 -- eight digits, two by two, spell the day
-date_spelled : (b0 b1 b2 b3 b4 b5 b6 b7 b8 b9 c y m d : ℕ) → (b4 ≡ 45) × (b7 ≡ 45) → (b0 ≡ 48 + c / 10) × (b1 ≡ 48 + c % 10) × (c < 100) → (b2 ≡ 48 + y / 10) × (b3 ≡ 48 + y % 10) × (y < 100) → (b5 ≡ 48 + m / 10) × (b6 ≡ 48 + m % 10) × (m < 100) → (b8 ≡ 48 + d / 10) × (b9 ≡ 48 + d % 10) × (d < 100) → b0 ∷ b1 ∷ b2 ∷ b3 ∷ b4 ∷ b5 ∷ b6 ∷ b7 ∷ b8 ∷ b9 ∷ [] ≡ date_text (record { year = c * 100 + y; month = m; day = d })
+date_spelled : (b0 b1 b2 b3 b4 b5 b6 b7 b8 b9 c y m d : ℕ) → (b4 ≡ 45) × (b7 ≡ 45) → (b0 ≡ 48 + c / 10) × (b1 ≡ 48 + c % 10) × (c < 100)
+    → (b2 ≡ 48 + y / 10) × (b3 ≡ 48 + y % 10) × (y < 100) → (b5 ≡ 48 + m / 10) × (b6 ≡ 48 + m % 10) × (m < 100) → (b8 ≡ 48 + d / 10) × (b9 ≡ 48 + d % 10) × (d < 100)
+    → b0 ∷ b1 ∷ b2 ∷ b3 ∷ b4 ∷ b5 ∷ b6 ∷ b7 ∷ b8 ∷ b9 ∷ [] ≡ date_text (record { year = c * 100 + y; month = m; day = d })
 date_spelled b0 b1 b2 b3 b4 b5 b6 b7 b8 b9 c y m d dashes hc hy hm hd =
     let high : (c * 100 + y) / 100 ≡ c = omega arith in
     let low : (c * 100 + y) % 100 ≡ y = omega arith in
@@ -52,7 +55,8 @@ date_text-date_by_digits : (s : Text) (v : Date) → date_by_digits s ≡ Some v
 date_text-date_by_digits s v e =
     let w = when_is ((length s == 10) && (slice_index s 4 == 45) && (slice_index s 7 == 45)) _ v e in
     let f = date_frame s w.0 in
-    let p : DateParts (pair_in (slice_index s 0) (slice_index s 1)) (pair_in (slice_index s 2) (slice_index s 3)) (pair_in (slice_index s 5) (slice_index s 6)) (pair_in (slice_index s 8) (slice_index s 9)) v = date_parts _ _ _ _ v w.1 in
+    let p : DateParts (pair_in (slice_index s 0) (slice_index s 1)) (pair_in (slice_index s 2) (slice_index s 3))
+    (pair_in (slice_index s 5) (slice_index s 6)) (pair_in (slice_index s 8) (slice_index s 9)) v = date_parts _ _ _ _ v w.1 in
     let c = pair_is (slice_index s 0) (slice_index s 1) p.century p.century_is in
     let y = pair_is (slice_index s 2) (slice_index s 3) p.year p.year_is in
     let m = pair_is (slice_index s 5) (slice_index s 6) p.month p.month_is in

@@ -34,7 +34,8 @@ minute_frame : (s : Text) → ((length s == 5) && (slice_index s 2 == 58)) ≡ t
 minute_frame s e = grind (arith, nat_tests)
 
 -- four digits, two by two, spell the time
-time_spelled : (b0 b1 b2 b3 b4 h m : ℕ) → b2 ≡ 58 → (b0 ≡ 48 + h / 10) × (b1 ≡ 48 + h % 10) × (h < 100) → (b3 ≡ 48 + m / 10) × (b4 ≡ 48 + m % 10) × (m < 100) → m < 60 → b0 ∷ b1 ∷ b2 ∷ b3 ∷ b4 ∷ [] ≡ time_text (h * 60 + m)
+time_spelled : (b0 b1 b2 b3 b4 h m : ℕ) → b2 ≡ 58 → (b0 ≡ 48 + h / 10) × (b1 ≡ 48 + h % 10) × (h < 100)
+    → (b3 ≡ 48 + m / 10) × (b4 ≡ 48 + m % 10) × (m < 100) → m < 60 → b0 ∷ b1 ∷ b2 ∷ b3 ∷ b4 ∷ [] ≡ time_text (h * 60 + m)
 time_spelled b0 b1 b2 b3 b4 h m colon hh hm short =
     let high : (h * 60 + m) / 60 ≡ h = omega arith in
     let low : (h * 60 + m) % 60 ≡ m = omega arith in

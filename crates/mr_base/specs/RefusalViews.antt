@@ -2,7 +2,9 @@
 use Rattle.std.specs.Prelude.{Result, Ok, Err}
 use Rattle.mr_model.specs.Refusals as model
 use Rattle.mr_base.specs.declared.refusals.Refusal.{Refusal}
-use Rattle.mr_base.specs.declared.refusals.Refusal.TheVariants.{BadDay, BadTime, BadLength, BadRoomName, BadTitle, TooManyAlternatives, UnknownRoom, RoomThere, NoSuchRequest, NotPrimary, PrimaryKeepsAll, BeyondCommitted, ClockExhausted, CountExhausted, BadLine, WrongPrimary, Gap, OutOfOrder, Forged, OwnWrite, PrimaryOnly, Truncated, BadPosition, OutOfMemory, Store, NotAReplica, NeedsVersion2}
+use Rattle.mr_base.specs.declared.refusals.Refusal.TheVariants.{BadDay, BadTime, BadLength, BadRoomName, BadTitle, TooManyAlternatives, UnknownRoom, RoomThere, NoSuchRequest}
+use Rattle.mr_base.specs.declared.refusals.Refusal.TheVariants.{NotPrimary, PrimaryKeepsAll, BeyondCommitted, ClockExhausted, CountExhausted, BadLine, WrongPrimary, Gap, OutOfOrder}
+use Rattle.mr_base.specs.declared.refusals.Refusal.TheVariants.{Forged, OwnWrite, PrimaryOnly, Truncated, BadPosition, OutOfMemory, Store, NotAReplica, NeedsVersion2}
 
 -- the refusal of the definitions that a refusal stands for
 abbrev pub refusal_of : Refusal → model.Refusal

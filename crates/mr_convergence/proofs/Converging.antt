@@ -8,7 +8,7 @@ use Rattle.mr_model.specs.Replica.{Replica, writes_of, count_of, knows_room, IsR
 use Rattle.mr_model.specs.World.{World, Step, Make, Deliver, StepReply, Made, replica_of}
 use Rattle.mr_model.specs.Honest.{own_writes, accepted, commits_among, commit_list, IsHonestReplica, IsHonest}
 use Rattle.mr_model.specs.WorldLaws.{HasAllOf}
-use Rattle.mr_convergence.specs.Convergence.{IsRunOf, IsQuietRun, Reaches, EachReachesEach, IsHandedOn, kept, handed, KnowsAll, AreAlike}
+use Rattle.mr_convergence.specs.Convergence.{IsRunOf, IsQuietRun, KnowledgeReaches, EachReachesEach, IsHandedOn, kept, handed, KnowsAll, AreAlike}
 use Rattle.mr_convergence.proofs.QuietSteps.{Same, quiet_same}
 use Rattle.mr_model.proofs.Fronts.{front_trans, front_equal, front_length, get_below, below_get, get-map, all_get, contains_get, get_all}
 use Rattle.mr_model.proofs.Histories.{counted_at}
@@ -38,22 +38,23 @@ all_trans a b c f g =
       commits = front_trans a.commits b.commits c.commits f.commits g.commits;
     }
 
-pub reaches_trans : (old middle new : World) (s t u : ℕ) → Reaches old middle s t → Reaches middle new t u → Reaches old new s u
+pub reaches_trans : (old middle new : World) (s t u : ℕ) → KnowledgeReaches old middle s t → KnowledgeReaches middle new t u → KnowledgeReaches old new s u
 reaches_trans old middle new s t u f g a e =
     let (b, eb, x) = f a e in
     let (c, ec, y) = g b eb in
     (c, ec, all_trans a b c x y)
 
 -- a replica keeps what it knows
-pub reaches_itself : (old new : World) (s : ℕ) → IsHonest old → Kept old new → Reaches old new s s
+pub reaches_itself : (old new : World) (s : ℕ) → IsHonest old → Kept old new → KnowledgeReaches old new s s
 reaches_itself old new s h k a e =
     let (b, eb, x) = k.1.replicas s a e in
     let own = honest_replica new s b k.0 eb in
     (b, eb, has_all (accepted new) (commit_list new) b a (within_later old new s a h k.1 e) own.writes_accepted own.one_primary x.counts x.commit_count)
 
-pub handed_kept : {old new : World} {ss : List Step} {rs : List StepReply} {s t : ℕ} → IsHonest old → IsHandedOn old ss rs new s t → Kept old new × Reaches old new s t
+pub handed_kept : {old new : World} {ss : List Step} {rs : List StepReply} {s t : ℕ} → IsHonest old → IsHandedOn old ss rs new s t → Kept old new × KnowledgeReaches old new s t
 handed_kept h (kept {old = old} {new = new} {s = s} run) = let k = run_kept h run in (k, reaches_itself old new s h k)
-handed_kept h (handed {old = old} {start = start} {made = made} {later = later} {end = end} {new = new} {s = s} {t = t} {u = u} {number = number} {size = size} {reply = reply} way d whole complete there run) =
+handed_kept h (handed {old = old} {start = start} {made = made} {later = later} {end = end} {new = new} {s = s} {t = t} {u = u} {number = number} {size = size} {reply = reply}
+    way d whole complete there run) =
     let before = handed_kept h way in
     let ks = before.0 in
     let km = step_kept start made (Make t u d.max_lines) (Made number size) ks.0 d.making in
@@ -89,8 +90,10 @@ commits-low n [] f = omega arith
 commits-low n (p ∷ rs) f = f p.server p (cond-true (eqb p.server p.server) (Some p) (find (λ x. eqb x.server p.server) rs) (eq-eqb p.server p.server refl))
 
 -- whom all has reached has at least as many writes of each server as were accepted, which are all, where no more are accepted meanwhile
-pub knows_writes : (old new : World) (t : ℕ) (r : Replica) → IsHonest old → IsHonest new → ((s : ℕ) → accepted new s ≡ accepted old s) → ((s : ℕ) → Reaches old new s t) → replica_of new t ≡ Some r → (s : ℕ) → writes_of s r.known ≡ accepted new s
-knows_writes old new t r h honest same reach e s = front_equal (writes_of s r.known) (accepted new s) (own.writes_accepted s) (subst (λ ws. length ws ≤ count_of r s) (sym (same s)) (low (replica_of old s) refl))
+pub knows_writes : (old new : World) (t : ℕ) (r : Replica) → IsHonest old → IsHonest new → ((s : ℕ) → accepted new s ≡ accepted old s)
+    → ((s : ℕ) → KnowledgeReaches old new s t) → replica_of new t ≡ Some r → (s : ℕ) → writes_of s r.known ≡ accepted new s
+knows_writes old new t r h honest same reach e s =
+    front_equal (writes_of s r.known) (accepted new s) (own.writes_accepted s) (subst (λ ws. length ws ≤ count_of r s) (sym (same s)) (low (replica_of old s) refl))
   where
     own : IsHonestReplica new r
     own = honest_replica new t r honest e
@@ -99,7 +102,7 @@ knows_writes old new t r h honest same reach e s = front_equal (writes_of s r.kn
     low None ea = omega arith
     low (Some a) ea = has_counts a r (honest_replica old s a h ea).sound own.sound (let (b, eb, x) = reach s a ea in subst (λ y. HasAllOf y a) (some_inj b r (sym eb ∙ e)) x) s
 
-pub knows_all : (old new : World) (t : ℕ) (r : Replica) → IsHonest old → IsQuietRun old new → ((s : ℕ) → Reaches old new s t) → replica_of new t ≡ Some r → KnowsAll new r
+pub knows_all : (old new : World) (t : ℕ) (r : Replica) → IsHonest old → IsQuietRun old new → ((s : ℕ) → KnowledgeReaches old new s t) → replica_of new t ≡ Some r → KnowsAll new r
 knows_all old new t r h c reach e =
     record {
       writes = knows_writes old new t r h honest same.accepts reach e;
@@ -144,7 +147,8 @@ pub alike_all : (w : World) (s t : ℕ) (a b : Replica) → IsHonest w → repli
 alike_all w s t a b h ea eb ka kb = alike_known a b (honest_replica w s a h ea).sound (honest_replica w t b h eb).sound (λ u. ka.writes u ∙ sym (kb.writes u)) (ka.commits ∙ sym kb.commits)
 
 -- who knows all goes on knowing just that, where nothing is accepted or committed
-pub same_stays : (old new : World) (s : ℕ) (a b : Replica) → IsHonest old → Kept old new → Same old new → replica_of old s ≡ Some a → replica_of new s ≡ Some b → KnowsAll old a → KnowsAll new b × AreAlike a b
+pub same_stays : (old new : World) (s : ℕ) (a b : Replica) → IsHonest old → Kept old new → Same old new
+    → replica_of old s ≡ Some a → replica_of new s ≡ Some b → KnowsAll old a → KnowsAll new b × AreAlike a b
 same_stays old new s a b h after same ea eb k = (
   record { writes = writes; commits = commits },
   alike_known a b sound_a own.sound (λ u. k.writes u ∙ sym (writes u ∙ same.accepts u)) (k.commits ∙ sym (commits ∙ same.commits)),
@@ -160,7 +164,8 @@ same_stays old new s a b h after same ea eb k = (
     has = let (q, eq, x) = reaches_itself old new s h after a ea in subst (λ y. HasAllOf y a) (some_inj q b (sym eq ∙ eb)) x
 
     writes : (u : ℕ) → writes_of u b.known ≡ accepted new u
-    writes u = front_equal (writes_of u b.known) (accepted new u) (own.writes_accepted u) (subst (λ ws. length ws ≤ count_of b u) (k.writes u ∙ sym (same.accepts u)) (has_counts a b sound_a own.sound has u))
+    writes u = front_equal (writes_of u b.known) (accepted new u) (own.writes_accepted u)
+        (subst (λ ws. length ws ≤ count_of b u) (k.writes u ∙ sym (same.accepts u)) (has_counts a b sound_a own.sound has u))
 
     commits : b.commits ≡ commit_list new
     commits = front_equal b.commits (commit_list new) own.one_primary (subst (λ ids. length ids ≤ length b.commits) (k.commits ∙ sym same.commits) (front_length a.commits b.commits has.commits))

@@ -19,7 +19,8 @@ behind before x others y after more = append_assoc before (x ∷ (others ++ (y �
 -- and then any steps
 pub handed_after : {a b c : World} {s t : ℕ} {ss ts : List Step} {rs us : List StepReply} → IsHandedOn a ss rs b s t → IsWorldRun b ts us c → IsHandedOn a (ss ++ ts) (rs ++ us) c s t
 handed_after (kept run) more = kept (run_append run more)
-handed_after {a = a} {c = c} {ts = ts} {us = us} (handed {s = s} {t = t} {u = u} {number = number} {size = size} {reply = reply} {before = before} {after = after} {replies_before = rb} {replies_after = ra} way d whole complete there run) more =
+handed_after {a = a} {c = c} {ts = ts} {us = us}
+    (handed {s = s} {t = t} {u = u} {number = number} {size = size} {reply = reply} {before = before} {after = after} {replies_before = rb} {replies_after = ra} way d whole complete there run) more =
     along a c s u
     (before ++ (Make t u d.max_lines ∷ (d.steps ++ (Deliver number u d.bytes ∷ (after ++ ts))))) ((before ++ (Make t u d.max_lines ∷ (d.steps ++ (Deliver number u d.bytes ∷ after)))) ++ ts)
     (rb ++ (Made number size ∷ (d.replies ++ (reply ∷ (ra ++ us))))) ((rb ++ (Made number size ∷ (d.replies ++ (reply ∷ ra)))) ++ us)
@@ -29,7 +30,8 @@ handed_after {a = a} {c = c} {ts = ts} {us = us} (handed {s = s} {t = t} {u = u}
 -- one way behind another
 pub handed_trans : {a b c : World} {s t u : ℕ} {ss ts : List Step} {rs us : List StepReply} → IsHandedOn a ss rs b s t → IsHandedOn b ts us c t u → IsHandedOn a (ss ++ ts) (rs ++ us) c s u
 handed_trans first (kept run) = handed_after first run
-handed_trans {a = a} {c = c} {s = s} {ss = ss} {rs = rs} first (handed {t = t} {u = u} {number = number} {size = size} {reply = reply} {before = before} {after = after} {replies_before = rb} {replies_after = ra} way d whole complete there run) =
+handed_trans {a = a} {c = c} {s = s} {ss = ss} {rs = rs} first
+    (handed {t = t} {u = u} {number = number} {size = size} {reply = reply} {before = before} {after = after} {replies_before = rb} {replies_after = ra} way d whole complete there run) =
     along a c s u
     ((ss ++ before) ++ (Make t u d.max_lines ∷ (d.steps ++ (Deliver number u d.bytes ∷ after)))) (ss ++ (before ++ (Make t u d.max_lines ∷ (d.steps ++ (Deliver number u d.bytes ∷ after)))))
     ((rs ++ rb) ++ (Made number size ∷ (d.replies ++ (reply ∷ ra)))) (rs ++ (rb ++ (Made number size ∷ (d.replies ++ (reply ∷ ra)))))

@@ -1,5 +1,6 @@
 -- Exchanges with the primary are never refused, and bring all to all.
-use Rattle.std.proofs.Common.{◌≡◌, refl, sym, ap, ◌∙◌, subst, ℕ, zero, suc, ◌+◌, ◌<◌, ◌≤◌, Bool, true, false, not, eqb, ltb, List, [], ◌∷◌, ◌++◌, length, map, take, ◌⊎◌, inl, inr, arith, eq-eqb, add-one, ltb-true, ltb-false, le_refl, Option, Some, None}
+use Rattle.std.proofs.Common.{◌≡◌, refl, sym, ap, ◌∙◌, subst, ℕ, zero, suc, ◌+◌, ◌<◌, ◌≤◌, Bool, true, false, not, eqb, ltb, List, [], ◌∷◌, ◌++◌}
+use Rattle.std.proofs.Common.{length, map, take, ◌⊎◌, inl, inr, arith, eq-eqb, add-one, ltb-true, ltb-false, le_refl, Option, Some, None}
 use Rattle.std.proofs.lemmas.Bool.{cond-true, cond-false, false_from_ne_true, cases_eq, cases_lt}
 use Rattle.std.specs.List.{AllByRecursion, list_any, find}
 use Rattle.mr_model.specs.Texts.{Text}
@@ -13,11 +14,12 @@ use Rattle.mr_model.specs.Step.{After, Receive, Commit, step, items_for, batch_o
 use Rattle.mr_model.specs.World.{World, Step, Make, Deliver, Do, StepReply, Made, Said, WorldAfter, replica_of, make_for, with_made, deliver_to, batch_numbered, world_step, do_at, with_after}
 use Rattle.mr_model.specs.Honest.{accepted, commit_list, OnePrimary, IsHonestItem, IsHonest, IsWorldStep, ended, stepped}
 use Rattle.mr_model.specs.WorldLaws.{IsDelivery, IsComplete, IsCountOrGap, count, gap}
-use Rattle.mr_convergence.specs.Convergence.{AcceptsNothing, IsQuiet, IsRunOf, IsQuietRun, IsThere, IsHandedOn, kept, handed, EachHandedToEach, IsDone, made, took, AsksFor, IsSmooth, IsSettling}
+use Rattle.mr_convergence.specs.Convergence.{AcceptsNothing, IsQuietStep, IsRunOf, IsQuietRun, IsThere, IsHandedOn, kept, handed}
+use Rattle.mr_convergence.specs.Convergence.{EachHandedToEach, IsMadeOrTaken, made, took, AsksForLines, IsSmooth, IsSettling}
 use Rattle.mr_model.proofs.OrderedSets.{all_map}
 use Rattle.mr_model.proofs.Fronts.{front_length, get_end, get-map, all_get, find_passes}
 use Rattle.mr_model.proofs.BatchesReadBack.{read-text, read_reads}
-use Rattle.mr_model.proofs.BatchItems.{given_within, IsOwn, items_own}
+use Rattle.mr_model.proofs.BatchItems.{given_within, IsOwn, items_own, none_beyond}
 use Rattle.mr_model.proofs.BatchesBring.{front_is_taken, whole_given, deliver_is}
 use Rattle.mr_convergence.proofs.Converging.{all_kept, handed_kept}
 use Rattle.mr_convergence.proofs.QuietSteps.{quiet_same, quiet_accepts}
@@ -34,35 +36,35 @@ use Rattle.mr_model.proofs.WordsReadBack.{all_append}
 use Rattle.mr_model.proofs.WorldFacts.{found_server, honest_replica, one_primary, history_of, agrees_of, found_put, others_put}
 use Rattle.mr_model.proofs.WorldPlacing.{Kept, put}
 use Rattle.mr_model.proofs.WorldSteps.{step_kept, made_items}
+use Rattle.mr_model.proofs.WorldKnowledge.{said_inj}
 
 -- ---- when a batch is given
 
 abbrev reply_of : Bool → Bool → Bool → Batch → Reply
 reply_of x y z b = batch_unless (first_refusal ((x, WrongPrimary) ∷ (y, Truncated) ∷ (z, NeedsVersion2) ∷ [])) b
 
-none-beyond : (xs : List Item) → list_any (is_beyond Second) xs ≡ false
-none-beyond [] = refl
-none-beyond (W w ∷ xs) = none-beyond xs
-none-beyond (C q id ∷ xs) = none-beyond xs
-
 reply-is : (a b : Replica) (m : ℕ) (y : Bool) → b.primary ≡ a.primary → ltb (length b.commits) a.dropped ≡ y → batch_reply a (position_of b) m ≡ reply_of false y false (batch_of a (position_of b) m)
 reply-is a b m y same e =
     let p = position_of b in
     ap (λ x. reply_of (not x) (ltb (length b.commits) a.dropped) (list_any (is_beyond Second) (batch_of a p m).items) (batch_of a p m)) (eq-eqb b.primary a.primary same)
     ∙ ap (λ x. reply_of false x (list_any (is_beyond Second) (batch_of a p m).items) (batch_of a p m)) e
-    ∙ ap (λ x. reply_of false y x (batch_of a p m)) (none-beyond (batch_of a p m).items)
+    ∙ ap (λ x. reply_of false y x (batch_of a p m)) (none_beyond (batch_of a p m).items)
 
-pub given_unless : (w : World) (s t m : ℕ) (a b : Replica) → IsHonest w → replica_of w s ≡ Some a → replica_of w t ≡ Some b → ((a.dropped ≤ length b.commits) × (batch_reply a (position_of b) m ≡ BatchIs (batch_of a (position_of b) m))) ⊎ ((length b.commits < a.dropped) × (batch_reply a (position_of b) m ≡ Refused Truncated))
+pub given_unless : (w : World) (s t m : ℕ) (a b : Replica) → IsHonest w → replica_of w s ≡ Some a → replica_of w t ≡ Some b
+    → ((a.dropped ≤ length b.commits) × (batch_reply a (position_of b) m ≡ BatchIs (batch_of a (position_of b) m)))
+    ⊎ ((length b.commits < a.dropped) × (batch_reply a (position_of b) m ≡ Refused Truncated))
 given_unless w s t m a b h ea eb = go (ltb (length b.commits) a.dropped) refl
   where
     same : b.primary ≡ a.primary
     same = one_primary w t s b a h eb ea
 
-    go : (y : Bool) → ltb (length b.commits) a.dropped ≡ y → ((a.dropped ≤ length b.commits) × (batch_reply a (position_of b) m ≡ BatchIs (batch_of a (position_of b) m))) ⊎ ((length b.commits < a.dropped) × (batch_reply a (position_of b) m ≡ Refused Truncated))
+    go : (y : Bool) → ltb (length b.commits) a.dropped ≡ y → ((a.dropped ≤ length b.commits) × (batch_reply a (position_of b) m ≡ BatchIs (batch_of a (position_of b) m)))
+        ⊎ ((length b.commits < a.dropped) × (batch_reply a (position_of b) m ≡ Refused Truncated))
     go true e = inr (ltb-true (length b.commits) a.dropped e, reply-is a b m true same e)
     go false e = inl (ltb-false (length b.commits) a.dropped e, reply-is a b m false same e)
 
-pub given_with_primary : (w : World) (s t m : ℕ) (a b : Replica) → IsHonest w → replica_of w s ≡ Some a → replica_of w t ≡ Some b → (a.server ≡ a.primary) ⊎ (b.server ≡ b.primary) → batch_reply a (position_of b) m ≡ BatchIs (batch_of a (position_of b) m)
+pub given_with_primary : (w : World) (s t m : ℕ) (a b : Replica) → IsHonest w → replica_of w s ≡ Some a → replica_of w t ≡ Some b
+    → (a.server ≡ a.primary) ⊎ (b.server ≡ b.primary) → batch_reply a (position_of b) m ≡ BatchIs (batch_of a (position_of b) m)
 given_with_primary w s t m a b h ea eb own = go (given_unless w s t m a b h ea eb)
   where
     few : (a.server ≡ a.primary) ⊎ (b.server ≡ b.primary) → a.dropped ≤ length b.commits
@@ -74,17 +76,21 @@ given_with_primary w s t m a b h ea eb own = go (given_unless w s t m a b h ea e
         let all = ap length ((agrees_of w t b h eb).of_primary z) in
         omega (arith, low, front, all)
 
-    go : ((a.dropped ≤ length b.commits) × (batch_reply a (position_of b) m ≡ BatchIs (batch_of a (position_of b) m))) ⊎ ((length b.commits < a.dropped) × (batch_reply a (position_of b) m ≡ Refused Truncated)) → batch_reply a (position_of b) m ≡ BatchIs (batch_of a (position_of b) m)
+    go : ((a.dropped ≤ length b.commits) × (batch_reply a (position_of b) m ≡ BatchIs (batch_of a (position_of b) m)))
+        ⊎ ((length b.commits < a.dropped) × (batch_reply a (position_of b) m ≡ Refused Truncated)) → batch_reply a (position_of b) m ≡ BatchIs (batch_of a (position_of b) m)
     go (inl x) = x.1
     go (inr x) = let low = few own in let less = x.0 in absurd (omega (arith, low, less))
 
-pub made_with_primary : (old new : World) (s t m : ℕ) (reply : StepReply) (a b : Replica) → IsHonest old → IsWorldStep old (Make s t m) reply new → replica_of old s ≡ Some a → replica_of old t ≡ Some b → (a.server ≡ a.primary) ⊎ (b.server ≡ b.primary) → ((number : ℕ) × (bytes : ℕ) × (reply ≡ Made number bytes)) ⊎ (reply ≡ Said (Refused OutOfMemory))
+pub made_with_primary : (old new : World) (s t m : ℕ) (reply : StepReply) (a b : Replica) → IsHonest old → IsWorldStep old (Make s t m) reply new
+    → replica_of old s ≡ Some a → replica_of old t ≡ Some b → (a.server ≡ a.primary) ⊎ (b.server ≡ b.primary)
+    → ((number : ℕ) × (bytes : ℕ) × (reply ≡ Made number bytes)) ⊎ (reply ≡ Said (Refused OutOfMemory))
 made_with_primary old new s t m reply a b h (ok, inr none) ea eb own = inr none.0
 made_with_primary old new s t m reply a b h (ok, inl e) ea eb own =
     inl (
       length old.pool + 1,
       length (batch_text (batch_of a (position_of b) m)),
-      ap (λ (y : WorldAfter). y.reply) e ∙ ap (λ o. (make_for old o (replica_of old t) m).reply) ea ∙ ap (λ o. (make_for old (Some a) o m).reply) eb ∙ ap (λ y. (with_made old y).reply) (given_with_primary old s t m a b h ea eb own),
+      ap (λ (y : WorldAfter). y.reply) e ∙ ap (λ o. (make_for old o (replica_of old t) m).reply) ea
+          ∙ ap (λ o. (make_for old (Some a) o m).reply) eb ∙ ap (λ y. (with_made old y).reply) (given_with_primary old s t m a b h ea eb own),
     )
 
 -- ---- quiet runs, one behind the other
@@ -105,11 +111,11 @@ smoothly_trans lines a b c f g =
         steps = f.quiet.steps ++ g.quiet.steps;
         replies = f.quiet.replies ++ g.quiet.replies;
         run = run_append f.quiet.run g.quiet.run;
-        all_allowed = all_append IsQuiet f.quiet.steps g.quiet.steps f.quiet.all_allowed g.quiet.all_allowed;
+        all_allowed = all_append IsQuietStep f.quiet.steps g.quiet.steps f.quiet.all_allowed g.quiet.all_allowed;
       };
       smooth = record {
-        asks = all_append (AsksFor lines) f.quiet.steps g.quiet.steps f.smooth.asks g.smooth.asks;
-        done = all_append IsDone f.quiet.replies g.quiet.replies f.smooth.done g.smooth.done;
+        asks = all_append (AsksForLines lines) f.quiet.steps g.quiet.steps f.smooth.asks g.smooth.asks;
+        done = all_append IsMadeOrTaken f.quiet.replies g.quiet.replies f.smooth.done g.smooth.done;
       };
       there = λ s x. f.there s (g.there s x);
     }
@@ -120,14 +126,12 @@ Way {m} {w} {new} c f t = IsHandedOn w c.quiet.steps c.quiet.replies new f t
 
 -- ---- one batch made and delivered whole
 
-said_inj : (x y : Reply) → Said x ≡ Said y → x ≡ y
-said_inj x y e = cc
-
 refused_isnt : (x : Reply) → IsCountOrGap x → x ≡ Refused OutOfMemory → ⊥
 refused_isnt x (count w c) e = cc
 refused_isnt x (gap line) e = cc
 
-module _ (w : World) (f t : ℕ) (a b : Replica) (h : IsHonest w) (ea : replica_of w f ≡ Some a) (eb : replica_of w t ≡ Some b) (m : ℕ) (given : batch_reply a (position_of b) m ≡ BatchIs (batch_of a (position_of b) m)) where
+module _ (w : World) (f t : ℕ) (a b : Replica) (h : IsHonest w) (ea : replica_of w f ≡ Some a) (eb : replica_of w t ≡ Some b)
+    (m : ℕ) (given : batch_reply a (position_of b) m ≡ BatchIs (batch_of a (position_of b) m)) where
   abbrev batch : Batch
   batch = batch_of a (position_of b) m
 
@@ -178,17 +182,18 @@ module _ (w : World) (f t : ℕ) (a b : Replica) (h : IsHonest w) (ea : replica_
 
   not_refused : reply ≡ Said (Refused OutOfMemory) → ⊥
   not_refused e =
-      let is : reply ≡ Said (step b (Receive (take (length text) text))).reply = ap (λ o. (deliver_to one o (batch_numbered one.pool number) (length text)).reply) eb ∙ ap (λ o. (deliver_to one (Some b) o (length text)).reply) numbered in
+      let is : reply ≡ Said (step b (Receive (take (length text) text))).reply = ap (λ o. (deliver_to one o (batch_numbered one.pool number) (length text)).reply) eb
+      ∙ ap (λ o. (deliver_to one (Some b) o (length text)).reply) numbered in
       refused_isnt (step b (Receive (take (length text) text))).reply is_delivered.replies (said_inj (step b (Receive (take (length text) text))).reply (Refused OutOfMemory) (sym is ∙ e))
 
   abbrev whole : IsDelivery w one one two f t number (length text) reply
   whole = record { max_lines = m; making = making; steps = []; replies = []; others = ended; bytes = length text; delivery = delivery }
 
-  taken : IsDone reply
+  taken : IsMadeOrTaken reply
   taken = go (front_is_taken w one one two f t number (length text) reply h whole)
     where
-      go : ((writes : ℕ) × (commits : ℕ) × (reply ≡ Said (Took writes commits))) ⊎ (reply ≡ Said (Refused OutOfMemory)) → IsDone reply
-      go (inl (writes, commits, e)) = subst IsDone (sym e) (took writes commits)
+      go : ((writes : ℕ) × (commits : ℕ) × (reply ≡ Said (Took writes commits))) ⊎ (reply ≡ Said (Refused OutOfMemory)) → IsMadeOrTaken reply
+      go (inl (writes, commits, e)) = subst IsMadeOrTaken (sym e) (took writes commits)
       go (inr e) = absurd (not_refused e)
 
   two_is : two ≡ put one received
@@ -217,7 +222,8 @@ module _ (w : World) (f t : ℕ) (a b : Replica) (h : IsHonest w) (ea : replica_
   meet long = handed (kept {s = f} ended) whole (le_refl (length text)) complete not_refused ended
     where
       ends : batch.ending ≡ Complete
-      ends = cond-false (ltb m (length (items_for a (position_of b)))) More Complete (false_from_ne_true (ltb m (length (items_for a (position_of b)))) (λ e. let l : m < length (items_for a (position_of b)) = ltb-true m (length (items_for a (position_of b))) e in omega (arith, l, long)))
+      ends = cond-false (ltb m (length (items_for a (position_of b)))) More Complete (false_from_ne_true (ltb m (length (items_for a (position_of b))))
+          (λ e. let l : m < length (items_for a (position_of b)) = ltb-true m (length (items_for a (position_of b))) e in omega (arith, l, long)))
 
       complete : IsComplete one number
       complete = (text, batch, numbered, read_reads text batch (read-text batch within), ends)
@@ -277,7 +283,8 @@ Exchanged m w f t = (new : World) × (c : Smooth m w new) × Way c f t
 
 -- from a world in which the receiver knows more
 abbrev Next : ℕ → ℕ → ℕ → ℕ → Type 0
-Next m n f t = (v : World) (a c : Replica) → IsHonest v → replica_of v f ≡ Some a → replica_of v t ≡ Some c → (a.server ≡ a.primary) ⊎ (c.server ≡ c.primary) → whole_size v ≤ size c + n → Exchanged m v f t
+Next m n f t = (v : World) (a c : Replica) → IsHonest v → replica_of v f ≡ Some a → replica_of v t ≡ Some c
+    → (a.server ≡ a.primary) ⊎ (c.server ≡ c.primary) → whole_size v ≤ size c + n → Exchanged m v f t
 
 module _ (m k : ℕ) (em : m ≡ suc k) (f t : ℕ) (ne : f ≡ t → ⊥) where
   one_round : (w : World) (a b : Replica) → IsHonest w → replica_of w f ≡ Some a → replica_of w t ≡ Some b → (a.server ≡ a.primary) ⊎ (b.server ≡ b.primary)
@@ -298,8 +305,10 @@ module _ (m k : ℕ) (em : m ≡ suc k) (f t : ℕ) (ne : f ≡ t → ⊥) where
       go [] e (inl less) = absurd (let none = ap length e in omega (arith, less, none))
       go (x ∷ xs) e (inl less) = more (further w f t a b h ea eb m given k em x xs e)
 
-  over : (w v : World) (a b c : Replica) (n j : ℕ) → IsHonest w → replica_of w t ≡ Some b → (a.server ≡ a.primary) ⊎ (b.server ≡ b.primary) → whole_size w ≤ size b + n → Smooth m w v → replica_of v f ≡ Some a → replica_of v t ≡ Some c → Extends b c → size b < size c → n ≡ suc j → Next m j f t → Exchanged m w f t
-  over w v a b c n j h eb own fuel smoothly ea ec x larger en ih = go (ih v a c after.0 ea ec (owns own) (let same = whole_same v w (quiet_same w v h smoothly.quiet).accepts (quiet_same w v h smoothly.quiet).commits in omega (arith, same, fuel, larger, en)))
+  over : (w v : World) (a b c : Replica) (n j : ℕ) → IsHonest w → replica_of w t ≡ Some b → (a.server ≡ a.primary) ⊎ (b.server ≡ b.primary) → whole_size w ≤ size b + n
+      → Smooth m w v → replica_of v f ≡ Some a → replica_of v t ≡ Some c → Extends b c → size b < size c → n ≡ suc j → Next m j f t → Exchanged m w f t
+  over w v a b c n j h eb own fuel smoothly ea ec x larger en ih =
+      go (ih v a c after.0 ea ec (owns own) (let same = whole_same v w (quiet_same w v h smoothly.quiet).accepts (quiet_same w v h smoothly.quiet).commits in omega (arith, same, fuel, larger, en)))
     where
       after : Kept w v
       after = all_kept w v h smoothly.quiet
@@ -330,7 +339,8 @@ Outcome m w pairs = (new : World) × (c : Smooth m w new) × AllByRecursion (λ 
 abbrev Others : ℕ → ℕ → List (ℕ × ℕ) → Type 0
 Others m p xs = (v : World) (r : Replica) → IsHonest v → replica_of v p ≡ Some r → r.server ≡ r.primary → Outcome m v xs
 
-meetings : (m k : ℕ) → m ≡ suc k → (p : ℕ) (pairs : List (ℕ × ℕ)) (w : World) (q : Replica) → IsHonest w → replica_of w p ≡ Some q → q.server ≡ q.primary → AllByRecursion (λ x. (x.0 ≡ p) ⊎ (x.1 ≡ p)) pairs → Outcome m w pairs
+meetings : (m k : ℕ) → m ≡ suc k → (p : ℕ) (pairs : List (ℕ × ℕ)) (w : World) (q : Replica) → IsHonest w
+    → replica_of w p ≡ Some q → q.server ≡ q.primary → AllByRecursion (λ x. (x.0 ≡ p) ⊎ (x.1 ≡ p)) pairs → Outcome m w pairs
 meetings m k em p [] w q h eq own all = (w, smoothly_refl m w, tt)
 meetings m k em p (x ∷ xs) w q h eq own all = go (replica_of w x.0) refl (replica_of w x.1) refl (λ v r hv er o. meetings m k em p xs v r hv er o all.1)
   where
@@ -405,7 +415,8 @@ gathered m k em p w q h eq own = go (meetings m k em p (map (to_it p) w.replicas
           let (a, ea) = there in
           let (i, at) = (find_passes (λ (x : Replica). eqb x.server s) w.replicas a ea).1 in
           let is = found_server w s a ea in
-          let one : IsThere w a.server → IsThere w p → Way c a.server p = all_get (λ x. IsThere w x.0 → IsThere w x.1 → Way c x.0 x.1) (map (to_it p) w.replicas) i (a.server, p) ways (get-map (to_it p) w.replicas i a at) in
+          let one : IsThere w a.server → IsThere w p
+          → Way c a.server p = all_get (λ x. IsThere w x.0 → IsThere w x.1 → Way c x.0 x.1) (map (to_it p) w.replicas) i (a.server, p) ways (get-map (to_it p) w.replicas i a at) in
           subst (λ u. Way c u p) is (one (a, ap (λ u. replica_of w u) is ∙ ea) (q, eq)),
     )
 
@@ -424,7 +435,8 @@ spread m k em p w q h eq own = go (meetings m k em p (map (from_it p) w.replicas
           let (b, eb) = c.there t there in
           let (i, at) = (find_passes (λ (x : Replica). eqb x.server t) w.replicas b eb).1 in
           let is = found_server w t b eb in
-          let one : IsThere w p → IsThere w b.server → Way c p b.server = all_get (λ x. IsThere w x.0 → IsThere w x.1 → Way c x.0 x.1) (map (from_it p) w.replicas) i (p, b.server) ways (get-map (from_it p) w.replicas i b at) in
+          let one : IsThere w p → IsThere w b.server
+          → Way c p b.server = all_get (λ x. IsThere w x.0 → IsThere w x.1 → Way c x.0 x.1) (map (from_it p) w.replicas) i (p, b.server) ways (get-map (from_it p) w.replicas i b at) in
           subst (λ u. Way c p u) is (one (q, eq) (b, ap (λ u. replica_of w u) is ∙ eb)),
     )
 
@@ -449,7 +461,8 @@ one_less (suc k) low = (k, refl)
 pub convergence_possible : (old : World) (lines : ℕ) → IsHonest old → 1 ≤ lines → (new : World) × (c : IsQuietRun old new) × IsSmooth lines c × EachHandedToEach c
 convergence_possible old lines h low = go (one_less lines low) (primary_there old h)
   where
-    go : (k : ℕ) × (lines ≡ suc k) → (old.replicas ≡ []) ⊎ ((p : ℕ) × (q : Replica) × (replica_of old p ≡ Some q) × (q.server ≡ q.primary)) → (new : World) × (c : IsQuietRun old new) × IsSmooth lines c × EachHandedToEach c
+    go : (k : ℕ) × (lines ≡ suc k) → (old.replicas ≡ []) ⊎ ((p : ℕ) × (q : Replica) × (replica_of old p ≡ Some q) × (q.server ≡ q.primary))
+        → (new : World) × (c : IsQuietRun old new) × IsSmooth lines c × EachHandedToEach c
     go (k, em) (inl none) = (old, (smoothly_refl lines old).quiet, (smoothly_refl lines old).smooth, λ s t there to. absurd (none_there old s there.0 none there.1))
     go (k, em) (inr (p, q, eq, own)) =
         let (mid, c, to) = gathered lines k em p old q h eq own in
@@ -461,12 +474,14 @@ convergence_possible old lines h low = go (one_less lines low) (primary_there ol
 
 -- a quiet run accepts nothing
 abbrev accepting_nothing : (a b : World) → IsQuietRun a b → IsRunOf AcceptsNothing a b
-accepting_nothing a b c = record { steps = c.steps; replies = c.replies; run = c.run; all_allowed = all_map IsQuiet AcceptsNothing quiet_accepts c.steps c.all_allowed }
+accepting_nothing a b c = record { steps = c.steps; replies = c.replies; run = c.run; all_allowed = all_map IsQuietStep AcceptsNothing quiet_accepts c.steps c.all_allowed }
 
-pub settlement_possible : (old : World) (lines server : ℕ) → IsHonest old → 1 ≤ lines → IsThere old server → (one : World) × (two : World) × (new : World) × (x : IsSettling old one two new) × IsSmooth lines x.gathered × IsSmooth lines x.spread
+pub settlement_possible : (old : World) (lines server : ℕ) → IsHonest old → 1 ≤ lines → IsThere old server
+    → (one : World) × (two : World) × (new : World) × (x : IsSettling old one two new) × IsSmooth lines x.gathered × IsSmooth lines x.spread
 settlement_possible old lines server h low there = go (one_less lines low) (primary_there old h)
   where
-    go : (k : ℕ) × (lines ≡ suc k) → (old.replicas ≡ []) ⊎ ((p : ℕ) × (q : Replica) × (replica_of old p ≡ Some q) × (q.server ≡ q.primary)) → (one : World) × (two : World) × (new : World) × (x : IsSettling old one two new) × IsSmooth lines x.gathered × IsSmooth lines x.spread
+    go : (k : ℕ) × (lines ≡ suc k) → (old.replicas ≡ []) ⊎ ((p : ℕ) × (q : Replica) × (replica_of old p ≡ Some q) × (q.server ≡ q.primary))
+        → (one : World) × (two : World) × (new : World) × (x : IsSettling old one two new) × IsSmooth lines x.gathered × IsSmooth lines x.spread
     go (k, em) (inl none) = absurd (none_there old server there.0 none there.1)
     go (k, em) (inr (p, q, eq, own)) =
         let (one, c, to) = gathered lines k em p old q h eq own in
@@ -475,7 +490,8 @@ settlement_possible old lines server h low there = go (one_less lines low) (prim
         let is_own : r.server ≡ r.primary = x.same_server ∙ own ∙ sym x.same_primary in
         let n = length (tentative r) in
         let after = with_commits r (map id_of (take n (tentative r))) in
-        let commit : IsWorldStep one (Do p (Commit n)) (Said (CommittedIs (length (take n (tentative r))))) (put one after) = (tt, inl (sym (ap (λ o. do_at one o (Commit n)) er ∙ ap (λ (y : After). with_after one y) (commit_is r n is_own)))) in
+        let commit : IsWorldStep one (Do p (Commit n)) (Said (CommittedIs (length (take n (tentative r))))) (put one after) =
+        (tt, inl (sym (ap (λ o. do_at one o (Commit n)) er ∙ ap (λ (y : After). with_after one y) (commit_is r n is_own)))) in
         let honest = (step_kept one (put one after) (Do p (Commit n)) (Said (CommittedIs (length (take n (tentative r))))) before.0 commit).0 in
         let (new, d, from) = spread lines k em p (put one after) after honest (found_put one.replicas p r after (found_server one p r er) er) is_own in (
           one,

@@ -10,9 +10,10 @@ use Rattle.mr_model.specs.Replica.{Replica, opening, writes_of, tentative, knows
 use Rattle.mr_model.specs.Positions.{Position, position_of}
 use Rattle.mr_model.specs.Replies.{CommittedIs}
 use Rattle.mr_model.specs.Step.{Command, AddRoom, Submit, Cancel, Receive, Commit, Truncate, AskPosition, BatchFor, Ask, After, step, step_unless, batch_of, batch_unless, batch_faults}
-use Rattle.mr_model.specs.World.{World, Step, Add, Do, Make, Deliver, StepReply, WorldAfter, replica_of, primary_among, put_replica, add_replica, do_at, make_for, with_made, deliver_to, batch_numbered, world_step}
+use Rattle.mr_model.specs.World.{World, Step, Add, Do, Make, Deliver, StepReply, WorldAfter, replica_of, primary_among}
+use Rattle.mr_model.specs.World.{put_replica, add_replica, do_at, make_for, with_made, deliver_to, batch_numbered, world_step}
 use Rattle.mr_model.specs.Honest.{own_writes, accepted, commits_among, commit_list, OnePrimary, IsHonest, IsLocal, IsWorldCommand, IsWorldStep, IsWorldRun, ended, stepped}
-use Rattle.mr_convergence.specs.Convergence.{AcceptsNothing, IsQuiet, IsQuietRun}
+use Rattle.mr_convergence.specs.Convergence.{AcceptsNothing, IsQuietStep, IsQuietRun}
 use Rattle.mr_model.proofs.Histories.{Agrees}
 use Rattle.mr_model.proofs.DeliverySteps.{delivered, text_numbered}
 use Rattle.mr_model.proofs.WorldFacts.{found_server, first_or, agrees_of, found_put, others_put}
@@ -39,7 +40,8 @@ known_same r server c ok none = of c ok none
 
     of : (d : Command) → IsLocal d → AcceptsNothing (Do server d) → SameWrites r (step r d).replica
     of (AddRoom room) ok none = unless (first_refusal ((not (is_room_name room), BadRoomName) ∷ (knows_room r room, RoomThere) ∷ [])) _ (record { server = refl; primary = refl; known = refl })
-    of (Truncate n) ok none = unless (first_refusal ((eqb r.server r.primary, PrimaryKeepsAll) ∷ (ltb (length r.commits) n, BeyondCommitted) ∷ [])) _ (record { server = refl; primary = refl; known = refl })
+    of (Truncate n) ok none =
+        unless (first_refusal ((eqb r.server r.primary, PrimaryKeepsAll) ∷ (ltb (length r.commits) n, BeyondCommitted) ∷ [])) _ (record { server = refl; primary = refl; known = refl })
     of (Commit k) ok none = unless (only_if (not (eqb r.server r.primary)) NotPrimary) _ (record { server = refl; primary = refl; known = refl })
     of AskPosition ok none = as_before r
     of (BatchFor position m) ok none = as_before r
@@ -49,7 +51,8 @@ known_same r server c ok none = of c ok none
     of (Receive bytes) ok none = absurd ok
 
 -- the commits too, unless some are committed
-commits_same : (r : Replica) (server : ℕ) (c : Command) → IsLocal c → AcceptsNothing (Do server c) → ((k : ℕ) → c ≡ Commit k → r.server ≡ r.primary → tentative r ≡ []) → (step r c).replica.commits ≡ r.commits
+commits_same : (r : Replica) (server : ℕ) (c : Command) → IsLocal c → AcceptsNothing (Do server c)
+    → ((k : ℕ) → c ≡ Commit k → r.server ≡ r.primary → tentative r ≡ []) → (step r c).replica.commits ≡ r.commits
 commits_same r server c ok none calm = of c ok none calm
   where
     unless : (o : Option Refusal) (done : After) → done.replica.commits ≡ r.commits → (step_unless r o done).replica.commits ≡ r.commits
@@ -71,7 +74,8 @@ commits_same r server c ok none calm = of c ok none calm
         take-none zero ws e = refl
         take-none (suc j) ws e = ap (λ vs. map id_of (take (suc j) vs)) e
 
-        go : (b : Bool) → (b ≡ true → tentative r ≡ []) → (step_unless r (only_if (not b) NotPrimary) (record { reply = CommittedIs (length (take k (tentative r))); replica = record r { commits = r.commits ++ map id_of (take k (tentative r)) } })).replica.commits ≡ r.commits
+        go : (b : Bool) → (b ≡ true → tentative r ≡ []) → (step_unless r (only_if (not b) NotPrimary)
+            (record { reply = CommittedIs (length (take k (tentative r))); replica = record r { commits = r.commits ++ map id_of (take k (tentative r)) } })).replica.commits ≡ r.commits
         go false nothing = refl
         go true nothing = ap (λ ids. r.commits ++ ids) (take-none k (tentative r) (nothing refl)) ∙ append-nil r.commits
 
@@ -83,7 +87,8 @@ put_accepts w s r q e same own t = elim (cases_eq q.server t) [
   | inr ne ↦ ap (λ o. own_writes o t) (others_put w.replicas t q ne)
 ]
 
-put_commits : (rs : List Replica) (s : ℕ) (r q : Replica) → OnePrimary rs → find (λ x. eqb x.server s) rs ≡ Some r → q.server ≡ r.server → q.primary ≡ r.primary → (q.server ≡ q.primary → q.commits ≡ commits_among rs) → commits_among (put_replica q rs) ≡ commits_among rs
+put_commits : (rs : List Replica) (s : ℕ) (r q : Replica) → OnePrimary rs → find (λ x. eqb x.server s) rs ≡ Some r → q.server ≡ r.server
+    → q.primary ≡ r.primary → (q.server ≡ q.primary → q.commits ≡ commits_among rs) → commits_among (put_replica q rs) ≡ commits_among rs
 put_commits [] s r q one e same names own = refl
 put_commits (p ∷ rs) s r q one e same names own =
     cond_both (eqb p.server q.server) (q ∷ rs) (p ∷ put_replica q rs) (λ ys. commits_among ys ≡ p.commits)
@@ -120,16 +125,16 @@ more_commits (p ∷ rs) server primary = refl
 abbrev pub IsCalm : World → Step → Type 0
 IsCalm w s = (server k : ℕ) (r : Replica) → s ≡ Do server (Commit k) → replica_of w server ≡ Some r → r.server ≡ r.primary → tentative r ≡ []
 
-pub quiet_calm : (w : World) (s : Step) → IsQuiet s → IsCalm w s
-quiet_calm w s quiet server k r e f own = absurd (subst IsQuiet e quiet)
+pub quiet_calm : (w : World) (s : Step) → IsQuietStep s → IsCalm w s
+quiet_calm w s quiet server k r e f own = absurd (subst IsQuietStep e quiet)
 
-pub quiet_accepts : (s : Step) → IsQuiet s → AcceptsNothing s
+pub quiet_accepts : (s : Step) → IsQuietStep s → AcceptsNothing s
 quiet_accepts (Add server) quiet = quiet
 quiet_accepts (Make from to m) quiet = quiet
 quiet_accepts (Deliver number to bytes) quiet = quiet
 quiet_accepts (Do server c) quiet = of c quiet
   where
-    of : (d : Command) → IsQuiet (Do server d) → AcceptsNothing (Do server d)
+    of : (d : Command) → IsQuietStep (Do server d) → AcceptsNothing (Do server d)
     of (AddRoom room) quiet = quiet
     of (Submit s) quiet = quiet
     of (Cancel room id) quiet = quiet
@@ -159,7 +164,8 @@ world_step_leaves w (Do server c) h ok none = go (replica_of w server) refl
     at : (r : Replica) → replica_of w server ≡ Some r → SameWrites r (step r c).replica → Agrees (accepted w) (commit_list w) r → Leaves (IsCalm w (Do server c)) w (put w (step r c).replica)
     at r e same a =
         record {
-          accepts = put_accepts w server r (step r c).replica e same.server (ap (λ ws. writes_of (step r c).replica.server ws) same.known ∙ subst (λ s. writes_of s r.known ≡ accepted w s) (sym same.server) a.own);
+          accepts = put_accepts w server r (step r c).replica e same.server
+              (ap (λ ws. writes_of (step r c).replica.server ws) same.known ∙ subst (λ s. writes_of s r.known ≡ accepted w s) (sym same.server) a.own);
           commits = λ calm.
               put_commits w.replicas server r (step r c).replica h.one_primary e same.server same.primary
               (λ own. commits_same r server c ok none (λ k is own. calm server k r (ap (λ d. Do server d) is) e own) ∙ a.of_primary (sym same.server ∙ own ∙ same.primary));
@@ -197,7 +203,8 @@ step_leaves old new s reply h none (ok, inr m) = subst (λ v. Leaves (IsCalm old
 
 -- ---- a run
 
-pub accepts_same : {old new : World} {ss : List Step} {replies : List StepReply} → IsHonest old → IsWorldRun old ss replies new → AllByRecursion AcceptsNothing ss → (s : ℕ) → accepted new s ≡ accepted old s
+pub accepts_same : {old new : World} {ss : List Step} {replies : List StepReply} → IsHonest old
+    → IsWorldRun old ss replies new → AllByRecursion AcceptsNothing ss → (s : ℕ) → accepted new s ≡ accepted old s
 accepts_same h ended all t = refl
 accepts_same h (stepped {old = a} {middle = m} {new = b} {s = s} {ss = ss} {reply = r} {replies = rs} st rest) all t =
     accepts_same (step_kept a m s r h st).0 rest all.1 t ∙ (step_leaves a m s r h all.0 st).accepts t
@@ -216,7 +223,7 @@ same_trans a b c f g = record { accepts = λ s. g.accepts s ∙ f.accepts s; com
 pub calm_same : (old new : World) (s : Step) (reply : StepReply) → IsHonest old → AcceptsNothing s → IsCalm old s → IsWorldStep old s reply new → Same old new
 calm_same old new s reply h none calm st = let x = step_leaves old new s reply h none st in record { accepts = x.accepts; commits = x.commits calm }
 
-quiet_run_same : {old new : World} {ss : List Step} {replies : List StepReply} → IsHonest old → IsWorldRun old ss replies new → AllByRecursion IsQuiet ss → Same old new
+quiet_run_same : {old new : World} {ss : List Step} {replies : List StepReply} → IsHonest old → IsWorldRun old ss replies new → AllByRecursion IsQuietStep ss → Same old new
 quiet_run_same {old = old} h ended all = same_refl old
 quiet_run_same h (stepped {old = a} {middle = m} {new = b} {s = s} {ss = ss} {reply = r} {replies = rs} st rest) all =
     same_trans a m b (calm_same a m s r h (quiet_accepts s all.0) (quiet_calm a s all.0) st) (quiet_run_same (step_kept a m s r h st).0 rest all.1)

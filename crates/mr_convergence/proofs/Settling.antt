@@ -14,7 +14,7 @@ use Rattle.mr_model.specs.Step.{After, Commit, step, step_unless}
 use Rattle.mr_model.specs.World.{World, Step, Do, StepReply, Said, WorldAfter, replica_of, do_at, with_after}
 use Rattle.mr_model.specs.Honest.{accepted, commit_list, IsHonest, IsHonestReplica, IsWorldStep, IsWorldRun, ended, stepped}
 use Rattle.mr_model.specs.WorldLaws.{HasAllOf}
-use Rattle.mr_convergence.specs.Convergence.{AcceptsNothing, IsRunOf, KnowsAll, AreAlike, IsSettled, IsSettling}
+use Rattle.mr_convergence.specs.Convergence.{AcceptsNothing, IsRunOf, KnowsAll, AreAlike, HasAllCommitted, IsSettling}
 use Rattle.mr_model.proofs.Fronts.{front_equal, front_length, find_passes, all_get, contains_get}
 use Rattle.mr_model.proofs.BatchItems.{get_filter}
 use Rattle.mr_model.proofs.CommittedPlaces.{committed_part}
@@ -47,13 +47,14 @@ tell-marks [] h = tt
 tell-marks (p ∷ ps) h =
     ((h.0, λ c e. let (k, at) = (find_passes (λ (x : Placed). cancels_it (id_of p.write) x.write.action x.place) ps c e).1 in all_get (λ x. x.is_committed ≡ true) ps k c h.1 at), tell-marks ps h.1)
 
-pub settled_by : (r : Replica) → tentative r ≡ [] → IsSettled r
+pub settled_by : (r : Replica) → tentative r ≡ [] → HasAllCommitted r
 settled_by r none =
     record {
       none_tentative = none;
       all_committed = λ w c. let (k, e) = contains_get r.known w c in go w k e (is_committed r (id_of w)) refl;
       full_is_committed = λ room. ap tell (whole room);
-      marks = λ room. subst (λ ps. AllByRecursion Marked (tell ps)) (sym (whole room)) (tell-marks (committed_places (view_of r room)) (placed-marks (view_of r room).committed (replay (view_of r room).committed)));
+      marks = λ room. subst (λ ps. AllByRecursion Marked (tell ps)) (sym (whole room))
+          (tell-marks (committed_places (view_of r room)) (placed-marks (view_of r room).committed (replay (view_of r room).committed)));
     }
   where
     whole : (room : Text) → whole_places (view_of r room) ≡ committed_places (view_of r room)
@@ -61,7 +62,9 @@ settled_by r none =
 
     go : (w : Write) (k : ℕ) → slice_get r.known k ≡ Some w → (b : Bool) → is_committed r (id_of w) ≡ b → is_committed r (id_of w) ≡ true
     go w k e true is = is
-    go w k e false is = let (j, at) = get_filter (λ (v : Write). not (is_committed r (id_of v))) r.known k w e (ap not is) in absurd (none_some w (sym (ap (λ (ws : List Write). slice_get ws j) none) ∙ at))
+    go w k e false is =
+        let (j, at) = get_filter (λ (v : Write). not (is_committed r (id_of v))) r.known k w e (ap not is) in
+        absurd (none_some w (sym (ap (λ (ws : List Write). slice_get ws j) none) ∙ at))
 
 -- ---- while nothing is accepted
 
@@ -112,9 +115,11 @@ committed_stays old new h c r = committed_run h c r.run r.all_allowed
 
 -- ---- the commit of all
 
-pub commit_is : (q : Replica) (count : ℕ) → q.server ≡ q.primary → ◌≡◌ {A = After} (step q (Commit count)) (record { reply = CommittedIs (length (take count (tentative q))); replica = with_commits q (map id_of (take count (tentative q))) })
+pub commit_is : (q : Replica) (count : ℕ) → q.server ≡ q.primary
+    → ◌≡◌ {A = After} (step q (Commit count)) (record { reply = CommittedIs (length (take count (tentative q))); replica = with_commits q (map id_of (take count (tentative q))) })
 commit_is q count own =
-    ap (λ b. step_unless q (only_if (not b) NotPrimary) (record { reply = CommittedIs (length (take count (tentative q))); replica = with_commits q (map id_of (take count (tentative q))) })) (eq-eqb q.server q.primary own)
+    ap (λ b. step_unless q (only_if (not b) NotPrimary) (record { reply = CommittedIs (length (take count (tentative q))); replica = with_commits q (map id_of (take count (tentative q))) }))
+    (eq-eqb q.server q.primary own)
 
 module _ (old one two new : World) (h : IsHonest old) (x : IsSettling old one two new) where
   abbrev q : Replica
@@ -170,8 +175,10 @@ module _ (old one two new : World) (h : IsHonest old) (x : IsSettling old one tw
   pub all_known : (t : ℕ) (r : Replica) → replica_of new t ≡ Some r → KnowsAll new r
   all_known t r e =
       record {
-        writes = λ s. front_equal (writes_of s r.known) (accepted new s) (own.writes_accepted s) (subst (λ ws. length ws ≤ count_of r s) (knows_two.writes s ∙ sym (after.0.accepts s)) (has_counts committed_all r sound own.sound given s));
-        commits = front_equal r.commits (commit_list new) own.one_primary (subst (λ ids. length ids ≤ length r.commits) (knows_two.commits ∙ sym after.0.commits) (front_length committed_all.commits r.commits given.commits));
+        writes = λ s. front_equal (writes_of s r.known) (accepted new s) (own.writes_accepted s)
+            (subst (λ ws. length ws ≤ count_of r s) (knows_two.writes s ∙ sym (after.0.accepts s)) (has_counts committed_all r sound own.sound given s));
+        commits = front_equal r.commits (commit_list new) own.one_primary
+            (subst (λ ids. length ids ≤ length r.commits) (knows_two.commits ∙ sym after.0.commits) (front_length committed_all.commits r.commits given.commits));
       }
     where
       own : IsHonestReplica new r
@@ -189,10 +196,11 @@ module _ (old one two new : World) (h : IsHonest old) (x : IsSettling old one tw
   none_left : (t : ℕ) (r : Replica) → replica_of new t ≡ Some r → tentative r ≡ []
   none_left t r e = let c = after.1 in same_tentative c.replica r (settled_alike c.primary t c.replica r c.is_there e) ∙ c.none_tentative
 
-  pub settles : (t : ℕ) (r : Replica) → replica_of new t ≡ Some r → IsSettled r × KnowsAll new r
+  pub settles : (t : ℕ) (r : Replica) → replica_of new t ≡ Some r → HasAllCommitted r × KnowsAll new r
   settles t r e = (settled_by r (none_left t r e), all_known t r e)
 
-  pub settled_stay : (later : World) (s : ℕ) (a b : Replica) → IsRunOf AcceptsNothing new later → replica_of new s ≡ Some a → replica_of later s ≡ Some b → IsSettled b × KnowsAll later b × AreAlike a b
+  pub settled_stay : (later : World) (s : ℕ) (a b : Replica) → IsRunOf AcceptsNothing new later
+      → replica_of new s ≡ Some a → replica_of later s ≡ Some b → HasAllCommitted b × KnowsAll later b × AreAlike a b
   settled_stay later s a b c ea eb =
       let same = (committed_stays new later honest_new after.1 c).0 in
       let (all, like) = same_stays new later s a b honest_new (all_kept new later honest_new c) same ea eb (all_known s a ea) in

@@ -65,7 +65,8 @@ told_write r room id t h e =
     let k = told_of_room r room t h f.0 in
     (k.known, k.in_room, same_id-true (told_id t) id f.1)
 
-outcome_over : (a b : Replica) (room : Text) (id : Id) (u : Told) → Twins a b → told_of id (whole_list (view_of a room)) ≡ Some u → outcome_reply (told_of id (whole_list (view_of a room))) ≡ outcome_reply (told_of id (whole_list (view_of b room)))
+outcome_over : (a b : Replica) (room : Text) (id : Id) (u : Told) → Twins a b → told_of id (whole_list (view_of a room)) ≡ Some u
+    → outcome_reply (told_of id (whole_list (view_of a room))) ≡ outcome_reply (told_of id (whole_list (view_of b room)))
 outcome_over a b room id u t e =
     let k = told_write a room id u t.first e in
     let (y, p) = twin_pair a b u.write t k.0 in
@@ -78,7 +79,8 @@ outcome_over a b room id u t e =
 pub same_outcome : (a b : Replica) (room : Text) (id : Id) → Twins a b → outcome_reply (told_of id (whole_list (view_of a room))) ≡ outcome_reply (told_of id (whole_list (view_of b room)))
 same_outcome a b room id t = go (told_of id (whole_list (view_of a room))) refl (told_of id (whole_list (view_of b room))) refl
   where
-    go : (o : Option Told) → told_of id (whole_list (view_of a room)) ≡ o → (u : Option Told) → told_of id (whole_list (view_of b room)) ≡ u → outcome_reply (told_of id (whole_list (view_of a room))) ≡ outcome_reply (told_of id (whole_list (view_of b room)))
+    go : (o : Option Told) → told_of id (whole_list (view_of a room)) ≡ o → (u : Option Told) → told_of id (whole_list (view_of b room)) ≡ u
+        → outcome_reply (told_of id (whole_list (view_of a room))) ≡ outcome_reply (told_of id (whole_list (view_of b room)))
     go (Some v) e u f = outcome_over a b room id v t e
     go None e (Some v) f = sym (outcome_over b a room id v (twins_turned a b t) f)
     go None e None f = ap outcome_reply (e ∙ sym f)
@@ -175,7 +177,8 @@ pub same_answer : (a b : Replica) (room : Text) (q : Question) → Twins a b →
 same_answer a b room (AskSheet day) t =
     let k = known_same a b room t in
     let es = same_entries a b room t in
-    λ i. unless (first_refusal ((is_none (read_date day), BadDay) ∷ (not (is_room_name room), BadRoomName) ∷ (not (k i), UnknownRoom) ∷ [])) (Sheet room (date_in day) (filter (λ e. same_date e.day (date_in day)) (es i)))
+    λ i. unless (first_refusal ((is_none (read_date day), BadDay) ∷ (not (is_room_name room), BadRoomName) ∷ (not (k i), UnknownRoom) ∷ []))
+    (Sheet room (date_in day) (filter (λ e. same_date e.day (date_in day)) (es i)))
 same_answer a b room (AskCalendar Full) t =
     let k = known_same a b room t in
     let es = same_entries a b room t in

@@ -63,16 +63,32 @@ februaries = refl
 -- ---- a board
 
 abbrev alpha : Write
-alpha = record { stamp = record { server = 2; n = 1; time = 1 }; room = codes "oak"; action = Books (record { title = codes "Alpha"; length = 60; wish = record { day = day; start = 540 }; alternatives = record { day = day; start = 600 } ∷ [] }) }
+alpha = record {
+  stamp = record { server = 2; n = 1; time = 1 };
+  room = codes "oak";
+  action = Books (record { title = codes "Alpha"; length = 60; wish = record { day = day; start = 540 }; alternatives = record { day = day; start = 600 } ∷ [] });
+}
 
 abbrev beta : Write
-beta = record { stamp = record { server = 2; n = 2; time = 2 }; room = codes "oak"; action = Books (record { title = codes "Beta"; length = 60; wish = record { day = day; start = 600 }; alternatives = [] }) }
+beta = record {
+  stamp = record { server = 2; n = 2; time = 2 };
+  room = codes "oak";
+  action = Books (record { title = codes "Beta"; length = 60; wish = record { day = day; start = 600 }; alternatives = [] });
+}
 
 abbrev xray : Write
-xray = record { stamp = record { server = 1; n = 1; time = 1 }; room = codes "oak"; action = Books (record { title = codes "Xray"; length = 30; wish = record { day = day; start = 540 }; alternatives = [] }) }
+xray = record {
+  stamp = record { server = 1; n = 1; time = 1 };
+  room = codes "oak";
+  action = Books (record { title = codes "Xray"; length = 30; wish = record { day = day; start = 540 }; alternatives = [] });
+}
 
 abbrev other : Write
-other = record { stamp = record { server = 3; n = 1; time = 1 }; room = codes "elm"; action = Books (record { title = codes "Other"; length = 60; wish = record { day = day; start = 540 }; alternatives = [] }) }
+other = record {
+  stamp = record { server = 3; n = 1; time = 1 };
+  room = codes "elm";
+  action = Books (record { title = codes "Other"; length = 60; wish = record { day = day; start = 540 }; alternatives = [] });
+}
 
 -- two requests at their wishes
 two_requests : board_replay (alpha ∷ beta ∷ []) ≡ Taken 0 ∷ Taken 0 ∷ []

@@ -9,13 +9,15 @@ use Rattle.mr_model.specs.Writes.{Id, Meeting, Action, Books, Cancels, Write, id
 use Rattle.mr_model.specs.Replay.{Place, Taken, Logged, Done, Void, Booking, place_for, place_among, slot_at, booking_of, without_target, booked_with, replay}
 use Rattle.mr_model.specs.Board.{after}
 use Rattle.mr_model.specs.Replies.{Entry}
-use Rattle.mr_model.specs.View.{View, Placed, cancels_it, cancel_of, Told, tell, placed_with, whole_places, committed_places, booking_unless, booked_told, whole_list, committed_list, entry_with, entry_unless, entry_of}
+use Rattle.mr_model.specs.View.{View, Placed, cancels_it, cancel_of, Told, tell, placed_with, whole_places, committed_places}
+use Rattle.mr_model.specs.View.{booking_unless, booked_told, whole_list, committed_list, entry_with, entry_unless, entry_of}
 use Rattle.mr_model.specs.Laws.{Shows, ShowsStanding, AreApart, fate_of, of_committed, as_committed}
 use Rattle.mr_model.specs.Dropped.{Has}
 use Rattle.mr_model.proofs.Members.{has_left, has_right, has_split, filter_has, all_has, has_all, has_filter_map, filter_map_has, find_has}
 use Rattle.mr_model.proofs.EntryOrder.{sorted_has, has_sorted}
 use Rattle.mr_model.proofs.UniqueReplay.{Meets, Choice, one_free, none_free, choice, first_free_taken, first_free_logged, before-stands, stands-before, some_inj}
 use Rattle.mr_model.proofs.PlacedInOrder.{placed_among, among-append, stand_alone, whole-places, standing-told, standing-told-of-committed, after-before}
+use Rattle.mr_model.proofs.RowsById.{flat_has}
 
 -- ---- entries
 
@@ -23,14 +25,6 @@ pub has_flat : {A B : Type 0} (f : A → List B) (x : A) (y : B) (xs : List A) �
 has_flat f x y [] h g = absurd h
 has_flat f x y (z ∷ zs) (inl e) g = has_left y (f z) (flat_map f zs) (subst (λ w. Has y (f w)) e g)
 has_flat f x y (z ∷ zs) (inr h) g = has_right y (f z) (flat_map f zs) (has_flat f x y zs h g)
-
-pub flat_has : {A B : Type 0} (f : A → List B) (y : B) (xs : List A) → Has y (flat_map f xs) → (x : A) × Has x xs × Has y (f x)
-flat_has f y [] h = absurd h
-flat_has {A = A} f y (z ∷ zs) h = go (has_split y (f z) (flat_map f zs) h) (flat_has f y zs)
-  where
-    go : Has y (f z) ⊎ Has y (flat_map f zs) → (Has y (flat_map f zs) → (x : A) × Has x zs × Has y (f x)) → (x : A) × Has x (z ∷ zs) × Has y (f x)
-    go (inl g) ih = (z, inl refl, g)
-    go (inr g) ih = let (x, i, k) = ih g in (x, inr i, k)
 
 -- the entry of a told write is that of its booking
 module _ (t : Told) where
@@ -101,8 +95,8 @@ apart_filter p (b ∷ bs) h = go (p b) (apart_filter p bs h.1)
     go false ih = ih
     go true ih = (has_all (λ c. ¬ (Overlap b.slot b.length c.slot c.length)) (filter p bs) (λ c i. all_has (λ x. ¬ (Overlap b.slot b.length x.slot x.length)) c bs h.0 (filter_has p c bs i).0), ih)
 
-turned : (a : Slot) (m : ℕ) (b : Slot) (n : ℕ) → Overlap a m b n → Overlap b n a m
-turned a m b n (day, minute, x, y) = (day, minute, y, x)
+pub overlap_turned : (a : Slot) (m : ℕ) (b : Slot) (n : ℕ) → Overlap a m b n → Overlap b n a m
+overlap_turned a m b n (day, minute, x, y) = (day, minute, y, x)
 
 apart_last : (bs : List Booking) (x : Booking) → AreApart bs → (Meets bs x.slot x.length → ⊥) → AreApart (bs ++ x ∷ [])
 apart_last [] x h free = (tt, tt)
@@ -117,7 +111,7 @@ apart_last (b ∷ bs) x h free = (
         go : Has c bs ⊎ Has c (x ∷ []) → ⊥
         go (inl g) = all_has (λ y. ¬ (Overlap b.slot b.length y.slot y.length)) c bs h.0 g o
         go (inr (inr g)) = absurd g
-        go (inr (inl e)) = free (inl (turned b.slot b.length x.slot x.length (subst (λ (y : Booking). Overlap b.slot b.length y.slot y.length) e o)))
+        go (inr (inl e)) = free (inl (overlap_turned b.slot b.length x.slot x.length (subst (λ (y : Booking). Overlap b.slot b.length y.slot y.length) e o)))
 
 -- what a booking took was free
 taken_free : (bs : List Booking) (m : Meeting) (k : ℕ) (s : Slot) → place_for bs (Books m) ≡ Taken k → slice_get (choices_of m) k ≡ Some s → Meets bs s m.length → ⊥
@@ -225,7 +219,8 @@ committed_cancel i (x ∷ xs) ys h k = go (cancels_it i x.write.action x.place) 
 others_gone : (ys : List Placed) → AllMarked false ys → map as_committed (filter (λ t. t.is_committed) (tell ys)) ≡ []
 others_gone [] k = refl
 others_gone (y ∷ ys) k =
-    ap (λ b. map as_committed (cond b (record { write = y.write; is_committed = y.is_committed; place = y.place; cancelled_by = cancel_of (id_of y.write) ys } ∷ filter (λ t. t.is_committed) (tell ys)) (filter (λ t. t.is_committed) (tell ys)))) k.0
+    ap (λ b. map as_committed (cond b (record { write = y.write; is_committed = y.is_committed; place = y.place; cancelled_by = cancel_of (id_of y.write) ys } ∷
+    filter (λ t. t.is_committed) (tell ys)) (filter (λ t. t.is_committed) (tell ys)))) k.0
     ∙ others_gone ys k.1
 
 committed_tell : (xs ys : List Placed) → AllMarked true xs → AllMarked false ys → tell xs ≡ map as_committed (filter (λ t. t.is_committed) (tell (xs ++ ys)))
@@ -248,7 +243,8 @@ committed_part_told v =
     places = drop (length v.committed) (replay (v.committed ++ v.tentative))
 
 -- a cancel behind a tentative write is tentative
-later_cancel : (xs ys : List Placed) (t : Told) (c : Placed) → AllMarked true xs → AllMarked false ys → Has t (tell (xs ++ ys)) → t.is_committed ≡ false → t.cancelled_by ≡ Some c → c.is_committed ≡ false
+later_cancel : (xs ys : List Placed) (t : Told) (c : Placed) → AllMarked true xs → AllMarked false ys
+    → Has t (tell (xs ++ ys)) → t.is_committed ≡ false → t.cancelled_by ≡ Some c → c.is_committed ≡ false
 later_cancel [] [] t c h k i m e = absurd i
 later_cancel [] (y ∷ ys) t c h k (inl s) m e = cancel_marked (id_of y.write) false ys c k.1 (sym (ap (λ (u : Told). u.cancelled_by) s) ∙ e)
 later_cancel [] (y ∷ ys) t c h k (inr i) m e = later_cancel [] ys t c h k.1 i m e

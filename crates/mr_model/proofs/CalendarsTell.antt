@@ -10,7 +10,8 @@ use Rattle.mr_model.specs.Replay.{Booking, slot_at, booking_of}
 use Rattle.mr_model.specs.Replica.{Replica, is_committed, committed, tentative, IsReplica}
 use Rattle.mr_model.specs.Board.{after}
 use Rattle.mr_model.specs.Replies.{Entry}
-use Rattle.mr_model.specs.View.{View, Placed, Told, of_room, view_of, whole_places, committed_places, whole_list, committed_list, booking_unless, booked_told, entry_with, entry_unless, entry_of, entries}
+use Rattle.mr_model.specs.View.{View, Placed, Told, of_room, view_of, whole_places, committed_places, whole_list}
+use Rattle.mr_model.specs.View.{committed_list, booking_unless, booked_told, entry_with, entry_unless, entry_of, entries}
 use Rattle.mr_model.specs.Tables.{BookingRow, PlaceRow, place_row, as_booking, tables_of}
 use Rattle.mr_model.specs.Tables as rows
 use Rattle.mr_model.specs.Queries.{row_entry, BookingBefore, AreInStartOrder, AreBookingsOf}
@@ -85,7 +86,8 @@ tentative_part r room = placed_among false (after [] (of_room room (committed r)
 pub part_apart : (r : Replica) (room : Text) → IsReplica r → Sorted Apart (filter_map entry_of (committed_list (view_of r room)))
 part_apart r room h =
     entries_apart (committed_list v)
-    (subst (λ bs. Sorted BeginApart bs) (ap (booked_by []) (committed-places v) ∙ booked_by-among true [] v.committed ∙ sym (standing-told-of-committed v)) (all_apart (committed_places v) (run-committed v) long))
+    (subst (λ bs. Sorted BeginApart bs) (ap (booked_by []) (committed-places v) ∙ booked_by-among true [] v.committed ∙ sym (standing-told-of-committed v))
+    (all_apart (committed_places v) (run-committed v) long))
   where
     v : View
     v = view_of r room
@@ -135,7 +137,8 @@ with_booking_row r room t row k e = go (case_of r room t k)
     go (void x f p g) = never (rows.Cancel (cancel_as r t.write x false)) g refl
 
 -- a booking row is that of a told write of its room
-pub row_told : (r : Replica) (room : Text) (row : BookingRow) → IsReplica r → Has row (tables_of r).booking → row.room ≡ room → (t : Told) × Has t (room_list r room) × (as_booking (place_row r t.write) ≡ Some row)
+pub row_told : (r : Replica) (room : Text) (row : BookingRow) → IsReplica r → Has row (tables_of r).booking
+    → row.room ≡ room → (t : Told) × Has t (room_list r room) × (as_booking (place_row r t.write) ≡ Some row)
 row_told r room row h a own =
     let (w, b, i) = known_of as_booking r row a in
     let (t, c, s) = told_in_room r w.room w h b refl in
@@ -145,7 +148,8 @@ row_told r room row h a own =
     (u, d, ap (λ x. as_booking (place_row r x)) q ∙ i)
 
 -- an entry of the full calendar shows a booking row of the room
-pub entry_has_row : (r : Replica) (room : Text) (e : Entry) → IsReplica r → Has e (entries (whole_list (view_of r room))) → (row : BookingRow) × Has row (tables_of r).booking × (row.room ≡ room) × (e ≡ row_entry row)
+pub entry_has_row : (r : Replica) (room : Text) (e : Entry) → IsReplica r → Has e (entries (whole_list (view_of r room)))
+    → (row : BookingRow) × Has row (tables_of r).booking × (row.room ≡ room) × (e ≡ row_entry row)
 entry_has_row r room e h a =
     let (t, b, f) = filter_map_has entry_of e (whole_list (view_of r room)) (sorted_has e (filter_map entry_of (whole_list (view_of r room))) a) in
     let k = told_of_room r room t h (subst (λ ts. Has t ts) (room-list r room) b) in

@@ -21,7 +21,8 @@ use Rattle.mr_model.proofs.RoomTold.{told_id, told_placed, known_told, told_of_r
 -- ---- the cancel, wherever it stands
 
 -- what is not booked yet is not taken back: a Done cancel of a write stands behind it
-pub told_whole : (bs : List Booking) (ps : List Placed) → IsRun bs ps → ((p : Placed) → Has p ps → Free (placed_id p) bs) → Distinct (map placed_id ps) → (t : Told) → Has t (tell ps) → t.cancelled_by ≡ cancel_of (told_id t) ps
+pub told_whole : (bs : List Booking) (ps : List Placed) → IsRun bs ps → ((p : Placed) → Has p ps → Free (placed_id p) bs)
+    → Distinct (map placed_id ps) → (t : Told) → Has t (tell ps) → t.cancelled_by ≡ cancel_of (told_id t) ps
 told_whole bs [] r fresh d t h = absurd h
 told_whole bs (p ∷ ps) r fresh d t (inl same) =
     ap (λ (x : Told). x.cancelled_by) same
@@ -29,7 +30,8 @@ told_whole bs (p ∷ ps) r fresh d t (inl same) =
     ∙ ap (λ (x : Told). cancel_of (told_id x) (p ∷ ps)) (sym same)
 told_whole bs (p ∷ ps) r fresh d t (inr h) =
     told_whole (booked_with bs p.write p.place) ps r.1 later d.1 t h
-    ∙ sym (cond-false (cancels_it (told_id t) p.write.action p.place) (Some p) (cancel_of (told_id t) ps) (not_now (told_id t) bs p.write.action p.place r.0 (fresh (placed_of t) (inr (told_placed ps t h)))))
+    ∙ sym (cond-false (cancels_it (told_id t) p.write.action p.place) (Some p) (cancel_of (told_id t) ps)
+    (not_now (told_id t) bs p.write.action p.place r.0 (fresh (placed_of t) (inr (told_placed ps t h)))))
   where
     later : (q : Placed) → Has q ps → Free (placed_id q) (booked_with bs p.write p.place)
     later q g =
@@ -58,7 +60,8 @@ placed-erased : (id : Id) (ps : List Placed) → place_or_logged (placed_in id (
 placed-erased id [] = refl
 placed-erased id (p ∷ ps) = go (same_id (id_of p.write) id) (placed-erased id ps)
   where
-    go : (b : Bool) → place_or_logged (placed_in id (map erased ps)) ≡ place_or_logged (placed_in id ps) → place_or_logged (cond b (Some (erased p)) (placed_in id (map erased ps))) ≡ place_or_logged (cond b (Some p) (placed_in id ps))
+    go : (b : Bool) → place_or_logged (placed_in id (map erased ps)) ≡ place_or_logged (placed_in id ps)
+        → place_or_logged (cond b (Some (erased p)) (placed_in id (map erased ps))) ≡ place_or_logged (cond b (Some p) (placed_in id ps))
     go true e = refl
     go false e = e
 
@@ -73,7 +76,8 @@ canceller-order r w h a =
     ∙ ap (λ ps. option_map placed_id (cancel_of (id_of w) ps)) (erased-room r w.room)
 
 -- so replicas with one order of the room agree on the cancels of its known writes
-pub canceller-same : (a b : Replica) (w : Write) → IsReplica a → IsReplica b → Has w a.known → Has w b.known → of_room w.room (order_of a) ≡ of_room w.room (order_of b) → canceller_of a w ≡ canceller_of b w
+pub canceller-same : (a b : Replica) (w : Write) → IsReplica a → IsReplica b → Has w a.known → Has w b.known
+    → of_room w.room (order_of a) ≡ of_room w.room (order_of b) → canceller_of a w ≡ canceller_of b w
 canceller-same a b w ha hb ka kb e =
     canceller-order a w ha ka ∙ ap (λ ws. option_map placed_id (cancel_of (id_of w) (placed_among false [] ws))) e ∙ sym (canceller-order b w hb kb)
 

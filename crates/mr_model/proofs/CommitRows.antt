@@ -32,7 +32,8 @@ ids_of_server : (s : ℕ) (ws : List Write) → length (commits_of s (map id_of 
 ids_of_server s [] = refl
 ids_of_server s (w ∷ ws) = go (eqb w.stamp.server s) (ids_of_server s ws)
   where
-    go : (b : Bool) → length (commits_of s (map id_of ws)) ≡ length (writes_of s ws) → length (cond b (id_of w ∷ commits_of s (map id_of ws)) (commits_of s (map id_of ws))) ≡ length (cond b (w ∷ writes_of s ws) (writes_of s ws))
+    go : (b : Bool) → length (commits_of s (map id_of ws)) ≡ length (writes_of s ws)
+        → length (cond b (id_of w ∷ commits_of s (map id_of ws)) (commits_of s (map id_of ws))) ≡ length (cond b (w ∷ writes_of s ws) (writes_of s ws))
     go true e = ap suc e
     go false e = e
 
@@ -46,11 +47,13 @@ commit_changes r k h g =
       cancellers = λ v a. canceller-same (after_commit r k) r v g h a a (ap (of_room v.room) (order-commit r k h));
       marks = λ v. among-append (id_of v) r.commits ids;
       old_numbers = λ v a. seq_front 1 r.commits ids (id_of v) (committed_known r v h a).1;
-      new_numbers = λ i v e. seq_at 1 (r.commits ++ ids) (id_of v) (length r.commits + i) (distinct_commits (after_commit r k) g) (slice_behind r.commits ids i ∙ slice_map id_of (first_tentative r k) i v e) ∙ omega arith;
+      new_numbers = λ i v e. seq_at 1 (r.commits ++ ids) (id_of v) (length r.commits + i) (distinct_commits (after_commit r k) g)
+          (slice_behind r.commits ids i ∙ slice_map id_of (first_tentative r k) i v e) ∙ omega arith;
       other_numbers = λ v e. seq_not 1 (r.commits ++ ids) (id_of v) (among_not (id_of v) (r.commits ++ ids) e);
       meta = (let l = long in λ i. record { server = r.server; primary = r.primary; commits = l i; dropped = r.dropped; clock = clock_of r });
       room = refl;
-      committed_counts = λ s. ap length (filter-append (λ (id : Id). eqb id.server s) r.commits ids) ∙ length-append (commits_of s r.commits) (commits_of s ids) ∙ ap (λ m. committed_count r s + m) (ids_of_server s (first_tentative r k));
+      committed_counts = λ s. ap length (filter-append (λ (id : Id). eqb id.server s) r.commits ids)
+          ∙ length-append (commits_of s r.commits) (commits_of s ids) ∙ ap (λ m. committed_count r s + m) (ids_of_server s (first_tentative r k));
     }
   where
     ids : List Id

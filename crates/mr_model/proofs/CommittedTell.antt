@@ -77,7 +77,8 @@ module _ (r : Replica) (room : Text) (h : IsReplica r) where
   told_early : (u : Told) → Has u (room_list r room) → u.is_committed ≡ true → (t : Told) × Has t (tell (committed_part r room)) × Longer (tentative_part r room) t u
   told_early u a e = go (shorter_of (committed_part r room) (tentative_part r room) u a)
     where
-      go : ((t : Told) × Has t (tell (committed_part r room)) × Longer (tentative_part r room) t u) ⊎ Has u (tell (tentative_part r room)) → (t : Told) × Has t (tell (committed_part r room)) × Longer (tentative_part r room) t u
+      go : ((t : Told) × Has t (tell (committed_part r room)) × Longer (tentative_part r room) t u) ⊎ Has u (tell (tentative_part r room))
+          → (t : Told) × Has t (tell (committed_part r room)) × Longer (tentative_part r room) t u
       go (inl x) = x
       go (inr g) = absurd (true≢false (sym e ∙ late (placed_of u) (told_placed (tentative_part r room) u g)))
 
@@ -155,14 +156,16 @@ module _ (r : Replica) (room : Text) (h : IsReplica r) where
                     (of_known as_cancel r (cancel_as r c.write away.target true) h c.write away.known (ap as_cancel away.row))
                     refl zero_seq refl,
                 some_inj e (row_entry (booked_as r found.0.write m s)) (sym plain ∙ ap (entry_with found.0) o
-                    ∙ (let mark = k.mark in λ i. Some (record { day = s.day; start = s.start; stop = s.start + length_in (act i); is_committed = mark i; id = id_of found.0.write; title = title_in (act i) }))),
+                    ∙ (let mark = k.mark in
+                    λ i. Some (record { day = s.day; start = s.start; stop = s.start + length_in (act i); is_committed = mark i; id = id_of found.0.write; title = title_in (act i) }))),
               )
           by_case (stood m s act o b row) = absurd (none_some c (sym b ∙ some))
           by_case (erred m act p b row) = absurd (none_some c (sym b ∙ some))
           by_case (done x act p row) = impossible (slot_at found.0.write found.0.place) refl (ap (slot_at found.0.write) p)
           by_case (void x act p row) = impossible (slot_at found.0.write found.0.place) refl (ap (slot_at found.0.write) p)
 
-  uncancelled : (t : Told) (c : Option Placed) → t.cancelled_by ≡ c → (o : Option Placed) → or_else t.cancelled_by (cancel_of (told_id t) (tentative_part r room)) ≡ o → ((d : Placed) → c ≡ Some d → o ≡ Some d → ⊥) → t.cancelled_by ≡ None
+  uncancelled : (t : Told) (c : Option Placed) → t.cancelled_by ≡ c → (o : Option Placed)
+      → or_else t.cancelled_by (cancel_of (told_id t) (tentative_part r room)) ≡ o → ((d : Placed) → c ≡ Some d → o ≡ Some d → ⊥) → t.cancelled_by ≡ None
   uncancelled t None e o g f = e
   uncancelled t (Some d) e o g f = absurd (f d refl (sym g ∙ ap (λ x. or_else x (cancel_of (told_id t) (tentative_part r room))) e))
 
@@ -261,7 +264,8 @@ module _ (r : Replica) (room : Text) (h : IsReplica r) where
 is_part : (r : Replica) (room : Text) → committed_list (view_of r room) ≡ tell (committed_part r room)
 is_part r room = ap tell (committed-places (view_of r room))
 
-pub committed_has_row : (r : Replica) (room : Text) (e : Entry) → IsReplica r → Has e (entries (committed_list (view_of r room))) → (row : BookingRow) × IsCommittedBooking r room row × (e ≡ row_entry row)
+pub committed_has_row : (r : Replica) (room : Text) (e : Entry) → IsReplica r → Has e (entries (committed_list (view_of r room)))
+    → (row : BookingRow) × IsCommittedBooking r room row × (e ≡ row_entry row)
 committed_has_row r room e h a =
     let (t, b, f) = filter_map_has entry_of e (committed_list (view_of r room)) (sorted_has e (filter_map entry_of (committed_list (view_of r room))) a) in
     to_rows r room h e t (subst (λ ts. Has t ts) (is_part r room) b) f
@@ -275,7 +279,8 @@ row_has_committed r room row h c =
 pub committed_sorted : (r : Replica) (room : Text) → IsReplica r → Sorted EntryBefore (entries (committed_list (view_of r room)))
 committed_sorted r room h = by_start_sorted (filter_map entry_of (committed_list (view_of r room))) (part_apart r room h)
 
-pub committed_told : (r : Replica) (room : Text) (rows : List BookingRow) → IsReplica r → AreInStartOrder rows → AreCommittedBookingsOf r room rows → entries (committed_list (view_of r room)) ≡ map row_entry rows
+pub committed_told : (r : Replica) (room : Text) (rows : List BookingRow) → IsReplica r → AreInStartOrder rows
+    → AreCommittedBookingsOf r room rows → entries (committed_list (view_of r room)) ≡ map row_entry rows
 committed_told r room rs h o m =
     sorted_same EntryBefore entry_irreflexive entry_trans (entries (committed_list (view_of r room))) (map row_entry rs) (committed_sorted r room h) (start_sorted rs o) there back_to
   where

@@ -16,7 +16,8 @@ use Rattle.mr_model.specs.Replica.{Replica, is_dropped, is_committed, write_with
 use Rattle.mr_model.specs.Board.{after}
 use Rattle.mr_model.specs.View.{Placed, of_room, cancel_of, placed_in, place_or_logged, place_of, canceller_of}
 use Rattle.mr_model.specs.Kept.{dropped_in_order, kept_in_order, kept_committed}
-use Rattle.mr_model.proofs.Members.{has_left, has_right, has_split, has_filter, filter_has, filter_map_has, has_filter_map, find_left, find_right, find_none, same_id-true, has_among, among_has, among_not, not_among, Distinct, distinct_parts, take_drop}
+use Rattle.mr_model.proofs.Members.{has_left, has_right, has_split, has_filter, filter_has, filter_map_has, has_filter_map, find_left, find_right}
+use Rattle.mr_model.proofs.Members.{find_none, same_id-true, has_among, among_has, among_not, not_among, Distinct, distinct_parts, take_drop}
 use Rattle.mr_model.proofs.KnownById.{with_id, known_with, committed_known, tentative_known, distinct_order, distinct_commits}
 use Rattle.mr_model.proofs.PlacedInOrder.{placed_among, among-append, placed_id}
 use Rattle.mr_model.proofs.PlacesOfOrder.{placed_has, has_placed, placed_here, placed-ids, distinct_filter, room_from, known_in_order}
@@ -132,9 +133,11 @@ not_in_dropped r room id e p a s = true≢false (sym (dropped_placed r room p a)
 pub place-later : (r : Replica) (w : Write) → is_dropped r (id_of w) ≡ false → place_of r w ≡ place_or_logged (placed_in (id_of w) (later_list r w.room))
 place-later r w e =
     place-order r w ∙ ap (λ ps. place_or_logged (placed_in (id_of w) ps)) (list-parts r w.room)
-    ∙ ap place_or_logged (find_right (λ p. same_id (placed_id p) (id_of w)) (dropped_list r w.room) (later_list r w.room) (find_none (λ p. same_id (placed_id p) (id_of w)) (dropped_list r w.room) (λ p a. false_from_ne_true (same_id (placed_id p) (id_of w)) (λ s. not_in_dropped r w.room (id_of w) e p a (same_id-true (placed_id p) (id_of w) s)))))
+    ∙ ap place_or_logged (find_right (λ p. same_id (placed_id p) (id_of w)) (dropped_list r w.room) (later_list r w.room) (find_none (λ p. same_id (placed_id p) (id_of w))
+    (dropped_list r w.room) (λ p a. false_from_ne_true (same_id (placed_id p) (id_of w)) (λ s. not_in_dropped r w.room (id_of w) e p a (same_id-true (placed_id p) (id_of w) s)))))
 
-pub canceller-parts : (r : Replica) (w : Write) → IsReplica r → Has w r.known → canceller_of r w ≡ option_map placed_id (or_else (cancel_of (id_of w) (dropped_list r w.room)) (cancel_of (id_of w) (later_list r w.room)))
+pub canceller-parts : (r : Replica) (w : Write) → IsReplica r → Has w r.known
+    → canceller_of r w ≡ option_map placed_id (or_else (cancel_of (id_of w) (dropped_list r w.room)) (cancel_of (id_of w) (later_list r w.room)))
 canceller-parts r w h a =
     canceller-order r w h a ∙ ap (λ ps. option_map placed_id (cancel_of (id_of w) ps)) (list-parts r w.room)
     ∙ ap (option_map placed_id) (cancel-append (id_of w) (dropped_list r w.room) (later_list r w.room))
@@ -158,7 +161,8 @@ dropped_distinct r room h =
     (subst Distinct (map-append placed_id (dropped_list r room) (later_list r room)) (subst (λ ps. Distinct (map placed_id ps)) (list-parts r room) (distinct_list r room h)))).0
 
 -- a dropped write with its place
-pub dropped_here : (r : Replica) (w : Write) → IsReplica r → Has w r.known → is_dropped r (id_of w) ≡ true → (p : Placed) × Has p (dropped_list r w.room) × (p.write ≡ w) × (placed_in (id_of w) (dropped_list r w.room) ≡ Some p)
+pub dropped_here : (r : Replica) (w : Write) → IsReplica r → Has w r.known → is_dropped r (id_of w) ≡ true
+    → (p : Placed) × Has p (dropped_list r w.room) × (p.write ≡ w) × (placed_in (id_of w) (dropped_list r w.room) ≡ Some p)
 dropped_here r w h a e =
     let (p, g, s) = has_placed false [] w (of_room w.room (dropped_in_order r)) (has_filter (λ v. bytes_eq v.room w.room) w (dropped_in_order r) (room_from w w.room refl) (known_dropped r w h a e)) in
     (p, g, s, ap (λ (v : Write). placed_in (id_of v) (dropped_list r w.room)) (sym s) ∙ placed_here p (dropped_list r w.room) (dropped_distinct r w.room h) g)

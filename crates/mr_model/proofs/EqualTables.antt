@@ -57,7 +57,8 @@ over_run b t (stepped {old = a} {middle = m} {new = n} {c = c} {cs = cs} {reply 
     (y, stepped sx ry, ty)
 
 -- a run of one is a run of the other, with the same replies, to equal tables
-pub equal_runs : (a b a' : Replica) (cs : List Command) (replies : List Reply) → IsReplica a → IsReplica b → tables_of a ≡ tables_of b → IsRun a cs replies a' → (b' : Replica) × IsRun b cs replies b' × (tables_of a' ≡ tables_of b')
+pub equal_runs : (a b a' : Replica) (cs : List Command) (replies : List Reply) → IsReplica a → IsReplica b
+    → tables_of a ≡ tables_of b → IsRun a cs replies a' → (b' : Replica) × IsRun b cs replies b' × (tables_of a' ≡ tables_of b')
 equal_runs a b a' cs replies ha hb e run =
     let (b', rb, t) = over_run b (twins a b ha hb e) run in
     (b', rb, to_tables a' b' t.first t.second t.alike)

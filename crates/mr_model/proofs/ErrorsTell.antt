@@ -38,7 +38,8 @@ pub sorted_map : {A B : Type 0} (P : B → B → Type 0) (f : A → B) (xs : Lis
 sorted_map P f [] s = tt
 sorted_map P f (x ∷ xs) s = (has_all (λ y. P (f x) (f y)) xs (λ y h. all_has (P (f x)) (f y) (map f xs) s.0 (has_map f y xs h)), sorted_map P f xs s.1)
 
-pub sorted_filter_map : {A B : Type 0} (P : A → A → Type 0) (Q : B → B → Type 0) (f : A → Option B) (xs : List A) → ((x y : A) (u v : B) → P x y → f x ≡ Some u → f y ≡ Some v → Q u v) → Sorted P xs → Sorted Q (filter_map f xs)
+pub sorted_filter_map : {A B : Type 0} (P : A → A → Type 0) (Q : B → B → Type 0) (f : A → Option B) (xs : List A)
+    → ((x y : A) (u v : B) → P x y → f x ≡ Some u → f y ≡ Some v → Q u v) → Sorted P xs → Sorted Q (filter_map f xs)
 sorted_filter_map P Q f [] k s = tt
 sorted_filter_map {A = A} {B = B} P Q f (x ∷ xs) k s = go (f x) refl (sorted_filter_map P Q f xs k s.1)
   where
@@ -49,9 +50,11 @@ sorted_filter_map {A = A} {B = B} P Q f (x ∷ xs) k s = go (f x) refl (sorted_f
 seq_sorted : (k : ℕ) (ids : List Id) → Distinct ids → Sorted (λ i j. seq_among k ids i < seq_among k ids j) ids
 seq_sorted k [] d = tt
 seq_sorted k (x ∷ xs) d = (
-  has_all (λ j. seq_among k (x ∷ xs) x < seq_among k (x ∷ xs) j) xs (λ j h. let l : k + 1 ≤ seq_among (k + 1) xs j = seq_has (k + 1) xs j h in let f : seq_among k (x ∷ xs) x ≡ k = first in let g : seq_among k (x ∷ xs) j ≡ seq_among (k + 1) xs j = later j h in omega (arith, l, f, g)),
+  has_all (λ j. seq_among k (x ∷ xs) x < seq_among k (x ∷ xs) j) xs (λ j h. let l : k + 1 ≤ seq_among (k + 1) xs j = seq_has (k + 1) xs j h in
+      let f : seq_among k (x ∷ xs) x ≡ k = first in let g : seq_among k (x ∷ xs) j ≡ seq_among (k + 1) xs j = later j h in omega (arith, l, f, g)),
   sorted_within (λ i j. seq_among (k + 1) xs i < seq_among (k + 1) xs j) (λ i j. seq_among k (x ∷ xs) i < seq_among k (x ∷ xs) j) xs
-      (λ i j h g l. let p : seq_among k (x ∷ xs) i ≡ seq_among (k + 1) xs i = later i h in let q : seq_among k (x ∷ xs) j ≡ seq_among (k + 1) xs j = later j g in omega (arith, l, p, q)) (seq_sorted (k + 1) xs d.1),
+      (λ i j h g l. let p : seq_among k (x ∷ xs) i ≡ seq_among (k + 1) xs i = later i h in
+      let q : seq_among k (x ∷ xs) j ≡ seq_among (k + 1) xs j = later j g in omega (arith, l, p, q)) (seq_sorted (k + 1) xs d.1),
 )
   where
     first : seq_among k (x ∷ xs) x ≡ k
@@ -69,7 +72,8 @@ pub order_sorted : (r : Replica) → IsReplica r → Sorted (OrderBefore r) (ord
 order_sorted r h =
     sorted_append (OrderBefore r) (committed r) (tentative r)
     (sorted_within (λ x y. seq_of r x < seq_of r y) (OrderBefore r) (committed r) (λ x y p q l. inl (positive x p, l))
-    (sorted_map (λ i j. seq_among 1 r.commits i < seq_among 1 r.commits j) id_of (committed r) (subst (λ is. Sorted (λ i j. seq_among 1 r.commits i < seq_among 1 r.commits j) is) (sym (committed_ids r h)) (seq_sorted 1 r.commits (distinct_commits r h)))))
+    (sorted_map (λ i j. seq_among 1 r.commits i < seq_among 1 r.commits j) id_of (committed r)
+    (subst (λ is. Sorted (λ i j. seq_among 1 r.commits i < seq_among 1 r.commits j) is) (sym (committed_ids r h)) (seq_sorted 1 r.commits (distinct_commits r h)))))
     (sorted_within (λ x y. IsTrue (stamp_before x y)) (OrderBefore r) (tentative r) (λ x y p q l. inr (inr (nothing x p, nothing y q, l))) (tentative_sorted r h))
     (λ x y p q. inr (inl (positive x p, nothing y q)))
   where
@@ -98,7 +102,8 @@ line_transitive r s t (none p q l) (both u v) = absurd (omega (arith, q, u))
 line_transitive r s t (none p q l) (one u v) = absurd (omega (arith, q, u))
 line_transitive r s t (none p q l) (none u v m) = none p v (go l m)
   where
-    go : (line_time r < line_time s) ⊎ ((line_time r ≡ line_time s) × (line_server r < line_server s)) → (line_time s < line_time t) ⊎ ((line_time s ≡ line_time t) × (line_server s < line_server t)) → (line_time r < line_time t) ⊎ ((line_time r ≡ line_time t) × (line_server r < line_server t))
+    go : (line_time r < line_time s) ⊎ ((line_time r ≡ line_time s) × (line_server r < line_server s)) → (line_time s < line_time t)
+        ⊎ ((line_time s ≡ line_time t) × (line_server s < line_server t)) → (line_time r < line_time t) ⊎ ((line_time r ≡ line_time t) × (line_server r < line_server t))
     go (inl a) (inl b) = inl (omega (arith, a, b))
     go (inl a) (inr b) = inl (let e = b.0 in omega (arith, a, e))
     go (inr a) (inl b) = inl (let e = a.0 in omega (arith, b, e))

@@ -90,7 +90,8 @@ nine_need_the_second = refl
 abbrev made : Text
 made =
     replies_from
-    (replica_after (opening 1 1) (Do (AddRoom (codes "oak")) ∷ Do (Submit (booking "14:00" [] "Alpha")) ∷ Lines ("mr1 2 1" ∷ "W 2 1 1 oak 60 1995-12-18 13:30 1 1995-12-18 15:00 Beta" ∷ "E" ∷ []) ∷ []))
+    (replica_after (opening 1 1)
+    (Do (AddRoom (codes "oak")) ∷ Do (Submit (booking "14:00" [] "Alpha")) ∷ Lines ("mr1 2 1" ∷ "W 2 1 1 oak 60 1995-12-18 13:30 1 1995-12-18 15:00 Beta" ∷ "E" ∷ []) ∷ []))
     (asks ("mp2 9 1" ∷ "K 0" ∷ "E" ∷ []) 64 ∷ [])
 
 abbrev made_text : Text

@@ -55,14 +55,16 @@ by_id_sorted r h = go 1 99
 
 rise_by : {R : Type 0} (key : R → Id) (rows : List R) → Sorted (λ a b. IdBefore (key a) (key b)) rows → RiseById (map key rows)
 rise_by key [] s = tt
-rise_by key (x ∷ xs) s = (has_all (IdBefore (key x)) (map key xs) (λ i h. let (y, g, e) = map_has key i xs h in subst (IdBefore (key x)) (sym e) (all_has (λ b. IdBefore (key x) (key b)) y xs s.0 g)), rise_by key xs s.1)
+rise_by key (x ∷ xs) s =
+    (has_all (IdBefore (key x)) (map key xs) (λ i h. let (y, g, e) = map_has key i xs h in subst (IdBefore (key x)) (sym e) (all_has (λ b. IdBefore (key x) (key b)) y xs s.0 g)), rise_by key xs s.1)
 
 sorted_of : {A B : Type 0} (P : B → B → Type 0) (f : A → B) (xs : List A) → Sorted (λ x y. P (f x) (f y)) xs → Sorted P (map f xs)
 sorted_of P f [] s = tt
 sorted_of P f (x ∷ xs) s = (has_all (P (f x)) (map f xs) (λ z h. let (y, g, e) = map_has f z xs h in subst (P (f x)) (sym e) (all_has (λ w. P (f x) (f w)) y xs s.0 g)), sorted_of P f xs s.1)
 
 -- the rows of one table
-table_rises : {R : Type 0} (r : Replica) (f : PlaceRow → Option R) (key : R → Id) → IsReplica r → ((p : PlaceRow) (row : R) → f p ≡ Some row → key row ≡ row_id p) → RiseById (map key (filter_map (λ w. f (place_row r w)) (by_id r.known)))
+table_rises : {R : Type 0} (r : Replica) (f : PlaceRow → Option R) (key : R → Id) → IsReplica r
+    → ((p : PlaceRow) (row : R) → f p ≡ Some row → key row ≡ row_id p) → RiseById (map key (filter_map (λ w. f (place_row r w)) (by_id r.known)))
 table_rises r f key h keyed =
     rise_by key (filter_map (λ w. f (place_row r w)) (by_id r.known))
     (sorted_filter_map (λ x y. IdBefore (row_id (place_row r x)) (row_id (place_row r y))) (λ a b. IdBefore (key a) (key b)) (λ w. f (place_row r w)) (by_id r.known)

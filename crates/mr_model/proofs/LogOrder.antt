@@ -24,8 +24,11 @@ log_before r x y (inr (inr p)) = none p.0 p.1 (before-true x y p.2)
 
 run_order : (r : Replica) (ws : List Write) → Sorted (OrderBefore r) ws → AreInRunOrder (map (log_row r) ws)
 run_order r [] s = tt
-run_order r (w ∷ ws) s =
-    (has_all (LogBefore (log_row r w)) (map (log_row r) ws) (λ row h. let (v, g, e) = map_has (log_row r) row ws h in subst (LogBefore (log_row r w)) (sym e) (log_before r w v (all_has (OrderBefore r w) v ws s.0 g))), run_order r ws s.1)
+run_order r (w ∷ ws) s = (
+  has_all (LogBefore (log_row r w)) (map (log_row r) ws) (λ row h. let (v, g, e) = map_has (log_row r) row ws h in
+      subst (LogBefore (log_row r w)) (sym e) (log_before r w v (all_has (OrderBefore r w) v ws s.0 g))),
+  run_order r ws s.1,
+)
 
 -- the log, sorted, is the kept writes in their order
 pub kept_is_the_log : (r : Replica) → IsReplica r → KeptIsTheLog r
@@ -50,6 +53,8 @@ kept_is_the_log r h =
 
     places : (map (place_of r) (dropped_in_order r) ≡ replay_on [] (dropped_in_order r)) × (map (place_of r) (kept_in_order r) ≡ replay_on (board_after [] (dropped_in_order r)) (kept_in_order r))
     places =
-        append_split (map (place_of r) (dropped_in_order r)) (replay_on [] (dropped_in_order r)) (map (place_of r) (kept_in_order r)) (replay_on (board_after [] (dropped_in_order r)) (kept_in_order r))
+        append_split (map (place_of r) (dropped_in_order r)) (replay_on [] (dropped_in_order r))
+        (map (place_of r) (kept_in_order r)) (replay_on (board_after [] (dropped_in_order r)) (kept_in_order r))
         (length-map (dropped_in_order r) (place_of r) ∙ sym (length-replay_on [] (dropped_in_order r)))
-        (sym (map-append (place_of r) (dropped_in_order r) (kept_in_order r)) ∙ ap (map (place_of r)) (sym (order-parts r)) ∙ order-places r h ∙ ap board_replay (order-parts r) ∙ replay_on-append [] (dropped_in_order r) (kept_in_order r))
+        (sym (map-append (place_of r) (dropped_in_order r) (kept_in_order r)) ∙ ap (map (place_of r)) (sym (order-parts r))
+        ∙ order-places r h ∙ ap board_replay (order-parts r) ∙ replay_on-append [] (dropped_in_order r) (kept_in_order r))

@@ -10,7 +10,8 @@ use Rattle.mr_model.specs.Writes.{Id, Meeting, Action, Books, Cancels, Write, id
 use Rattle.mr_model.specs.Replay.{Place, slot_at, replay}
 use Rattle.mr_model.specs.Replica.{Replica, is_committed, write_with, committed, tentative, IsReplica}
 use Rattle.mr_model.specs.View.{View, Placed, Told, of_room, view_of, placed_with, whole_places, cancels_it, cancel_of, tell, whole_list, told_of, place_of, canceller_in, canceller_of}
-use Rattle.mr_model.specs.Tables.{OfMeeting, cells_of, CancelledRow, CancelRow, PlaceRow, by_id, seq_of, booking_place_row, place_row_for, place_row, as_cancelled, as_cancel, cancelled_row, cancel_row, log_row, kept, tables_of, Stands}
+use Rattle.mr_model.specs.Tables.{OfMeeting, cells_of, CancelledRow, CancelRow, PlaceRow, by_id, seq_of, booking_place_row, place_row_for}
+use Rattle.mr_model.specs.Tables.{place_row, as_cancelled, as_cancel, cancelled_row, cancel_row, log_row, kept, tables_of, Stands}
 use Rattle.mr_model.specs.First.{choices_in_cells, WriteRow, FirstUndoRow, FirstTables, write_row, undo_row, first_tables_of, StandsFirst, undo_of, moved_row, moved_log, HavePlaces, moved}
 use Rattle.mr_model.proofs.Members.{filter_has, has_map, map_has, filter_map_has, all_has, has_all, has_split, find_has, find_one, same_id-true, same_id_refl}
 use Rattle.mr_model.proofs.KnownById.{one_known, known_with}
@@ -98,7 +99,8 @@ row_old r w f h = go w.action (f w h)
     slot m (Some s) = (refl, refl)
 
     go : (a : Action) → is_first_action a ≡ true → IsOld (place_row_for w a (place_of r w) (canceller_of r w) (is_committed r (id_of w)) (seq_of r w))
-    go (Books m) e = subst (λ (by : Option Id). IsOld (booking_place_row w m (slot_at w (place_of r w)) by (is_committed r (id_of w)) (seq_of r w))) (sym (uncancelled r w f)) (slot m (slot_at w (place_of r w)))
+    go (Books m) e = subst (λ (by : Option Id). IsOld (booking_place_row w m (slot_at w (place_of r w)) by (is_committed r (id_of w)) (seq_of r w)))
+        (sym (uncancelled r w f)) (slot m (slot_at w (place_of r w)))
     go (Cancels x) e = absurd (true≢false (sym e))
 
 none_left : {A B : Type 0} (f : A → Option B) (xs : List A) → ((x : A) → Has x xs → f x ≡ None) → filter_map f xs ≡ []

@@ -1,11 +1,13 @@
 -- What a write more and a commit change of the order, and of the places.
-use Rattle.std.proofs.Common.{◌≡◌, refl, sym, ap, ◌∙◌, subst, ℕ, zero, suc, ◌+◌, ◌<◌, ◌≤◌, Bool, true, false, not, cond, ◌||◌, List, [], ◌∷◌, ◌++◌, length, map, take, drop, ◌⊎◌, inl, inr, arith, append_assoc, le_refl, IsTrue, Option, Some, None}
+use Rattle.std.proofs.Common.{◌≡◌, refl, sym, ap, ◌∙◌, subst, ℕ, zero, suc, ◌+◌, ◌<◌, ◌≤◌, Bool, true, false, not, cond, ◌||◌, List, [], ◌∷◌}
+use Rattle.std.proofs.Common.{◌++◌, length, map, take, drop, ◌⊎◌, inl, inr, arith, append_assoc, le_refl, IsTrue, Option, Some, None}
 use Rattle.std.proofs.lemmas.Bool.{not-false, or_left, cond-true, cond-false, false_from_ne_true}
 use Rattle.std.proofs.lemmas.List.{map-append, length-map}
 use Rattle.std.proofs.lemmas.List.Elements.{filter-append, filter_map-append}
 use Rattle.std.specs.List.{AllByRecursion, filter, filter_map, cons_option}
 use Rattle.mr_model.specs.Writes.{Id, Stamp, Write, id_of, same_id, is_write, stamp_before}
-use Rattle.mr_model.specs.Replica.{Replica, count_of, clock_of, last_time, knows_room, commits_of, committed_count, is_among, is_committed, write_with, committed, tentative, order_of, with_write, add_write, add_commit, IsReplica}
+use Rattle.mr_model.specs.Replica.{Replica, count_of, clock_of, last_time, knows_room, commits_of, committed_count, is_among, is_committed}
+use Rattle.mr_model.specs.Replica.{write_with, committed, tentative, order_of, with_write, add_write, add_commit, IsReplica}
 use Rattle.std.specs.Str.{bytes_eq}
 use Rattle.mr_model.specs.Texts.{Text}
 use Rattle.mr_model.specs.Refusals.{first_refusal}
@@ -17,7 +19,8 @@ use Rattle.mr_model.specs.Dropped.{Has}
 use Rattle.mr_model.specs.Changes.{IsNext, WriteInserted, CommitMoved, after_commit}
 use Rattle.mr_model.proofs.OrderedSets.{before-true, Before, greatest_bound}
 use Rattle.mr_model.proofs.ChangesKeep.{keeps-add_write, keeps-add_commit}
-use Rattle.mr_model.proofs.Members.{has_left, has_right, has_filter, has_map, all_has, has_all, Sorted, Distinct, distinct_parts, among_not, not_among, has_among, take_drop, same_id-true, same_id_refl}
+use Rattle.mr_model.proofs.Members.{has_left, has_right, has_filter, has_map, all_has, has_all, Sorted, Distinct}
+use Rattle.mr_model.proofs.Members.{distinct_parts, among_not, not_among, has_among, take_drop, same_id-true, same_id_refl}
 use Rattle.mr_model.proofs.KnownById.{known_bounds, commit_known, numbered_bounds, numbered_commits, own_id, known_at, with_id, tentative_known, tentative_sorted, distinct_order}
 use Rattle.mr_model.proofs.WithWrite.{filter-with_write, find-with_write}
 use Rattle.mr_model.proofs.StepsKeep.{last_below_clock, times_below, none_apply, submitted_within, cancelled_within}
@@ -64,10 +67,12 @@ pub tentative-add_write : (r : Replica) (w : Write) → IsReplica r → IsNext r
 tentative-add_write r w h next =
     filter-with_write (λ v. not (is_committed r (id_of v))) w r.known h.in_stamp_order (ap not (not_among (id_of w) r.commits (new_not_committed r w h next)))
 
-pub committed-with : (r : Replica) (w : Write) (ids : List Id) → IsReplica r → IsNext r w → ((id : Id) → Has id ids → Has id r.commits) → filter_map (write_with (add_write r w)) ids ≡ filter_map (write_with r) ids
+pub committed-with : (r : Replica) (w : Write) (ids : List Id) → IsReplica r → IsNext r w
+    → ((id : Id) → Has id ids → Has id r.commits) → filter_map (write_with (add_write r w)) ids ≡ filter_map (write_with r) ids
 committed-with r w ids h next inside =
     filter_map_same (write_with (add_write r w)) (write_with r) ids
-    (λ id a. with-add_write r w id h next ∙ cond-false (same_id (id_of w) id) (Some w) (write_with r id) (false_from_ne_true (same_id (id_of w) id) (λ s. new_not_committed r w h next (subst (λ i. Has i r.commits) (sym (same_id-true (id_of w) id s)) (inside id a)))))
+    (λ id a. with-add_write r w id h next ∙ cond-false (same_id (id_of w) id) (Some w) (write_with r id)
+    (false_from_ne_true (same_id (id_of w) id) (λ s. new_not_committed r w h next (subst (λ i. Has i r.commits) (sym (same_id-true (id_of w) id s)) (inside id a)))))
 
 filter_or : {A : Type 0} (p q pq : A → Bool) (xs : List A) → ((x : A) → pq x ≡ (p x || q x)) → filter (λ x. not (pq x)) xs ≡ filter (λ x. not (q x)) (filter (λ x. not (p x)) xs)
 filter_or p q pq [] e = refl
@@ -75,7 +80,8 @@ filter_or p q pq (x ∷ xs) e =
     ap (λ b. cond (not b) (x ∷ filter (λ y. not (pq y)) xs) (filter (λ y. not (pq y)) xs)) (e x)
     ∙ ap (λ ys. cond (not (p x || q x)) (x ∷ ys) ys) (filter_or p q pq xs e) ∙ go (p x)
   where
-    go : (b : Bool) → cond (not (b || q x)) (x ∷ filter (λ y. not (q y)) (filter (λ y. not (p y)) xs)) (filter (λ y. not (q y)) (filter (λ y. not (p y)) xs)) ≡ filter (λ y. not (q y)) (cond (not b) (x ∷ filter (λ y. not (p y)) xs) (filter (λ y. not (p y)) xs))
+    go : (b : Bool) → cond (not (b || q x)) (x ∷ filter (λ y. not (q y)) (filter (λ y. not (p y)) xs)) (filter (λ y. not (q y)) (filter (λ y. not (p y)) xs))
+        ≡ filter (λ y. not (q y)) (cond (not b) (x ∷ filter (λ y. not (p y)) xs) (filter (λ y. not (p y)) xs))
     go true = refl
     go false = refl
 
@@ -105,12 +111,14 @@ pub order-submit : (r : Replica) (w : Write) → IsReplica r → IsNext r w → 
 order-submit r w h n late =
     let early : AllByRecursion (λ v. v.stamp.time < w.stamp.time) (tentative r) =
     has_all (λ v. v.stamp.time < w.stamp.time) (tentative r)
-    (λ v a. let t : v.stamp.time ≤ clock_of r = all_has (λ u. u.stamp.time ≤ clock_of r) v r.known (greatest_bound (clock_of r) r.known (le_refl (clock_of r))) (tentative_known r v a).0 in omega (arith, t, late)) in
+    (λ v a. let t : v.stamp.time ≤ clock_of r = all_has (λ u. u.stamp.time ≤ clock_of r) v r.known (greatest_bound (clock_of r) r.known (le_refl (clock_of r))) (tentative_known r v a).0 in
+    omega (arith, t, late)) in
     ap (λ ws. committed (add_write r w) ++ ws) (tentative-add_write r w h n ∙ put_last w (tentative r) early)
     ∙ ap (λ ws. ws ++ (tentative r ++ w ∷ [])) (committed-with r w r.commits h n (λ id a. a))
     ∙ sym (append_assoc (committed r) (tentative r) (w ∷ []))
 
-pub places-submit : (r : Replica) (w : Write) → IsReplica r → IsNext r w → clock_of r < w.stamp.time → (map (place_of (add_write r w)) (order_of r) ≡ map (place_of r) (order_of r)) × (place_of (add_write r w) w ≡ place_on (board_after [] (order_of r)) w)
+pub places-submit : (r : Replica) (w : Write) → IsReplica r → IsNext r w → clock_of r < w.stamp.time
+    → (map (place_of (add_write r w)) (order_of r) ≡ map (place_of r) (order_of r)) × (place_of (add_write r w) w ≡ place_on (board_after [] (order_of r)) w)
 places-submit r w h n late =
     append_parts (map (place_of (add_write r w)) (order_of r)) (map (place_of r) (order_of r)) (place_of (add_write r w) w) (place_on (board_after [] (order_of r)) w)
     (length-map (order_of r) (place_of (add_write r w)) ∙ sym (length-map (order_of r) (place_of r)))
@@ -141,17 +149,21 @@ without_front zero ws d = all ws
     all (v ∷ vs) = ap (λ (us : List Write). v ∷ us) (all vs)
 without_front (suc k) [] d = refl
 without_front (suc k) (w ∷ ws) d =
-    cond-false (not (same_id (id_of w) (id_of w) || is_among (id_of w) (map id_of (take k ws)))) (w ∷ filter (λ v. not (is_among (id_of v) (id_of w ∷ map id_of (take k ws)))) ws) (filter (λ v. not (is_among (id_of v) (id_of w ∷ map id_of (take k ws)))) ws)
+    cond-false (not (same_id (id_of w) (id_of w) || is_among (id_of w) (map id_of (take k ws))))
+    (w ∷ filter (λ v. not (is_among (id_of v) (id_of w ∷ map id_of (take k ws)))) ws) (filter (λ v. not (is_among (id_of v) (id_of w ∷ map id_of (take k ws)))) ws)
     (ap not (or_left (same_id (id_of w) (id_of w)) (is_among (id_of w) (map id_of (take k ws))) (same_id_refl (id_of w))))
     ∙ without_it ws (λ v a. a) ∙ without_front k ws d.1
   where
     other : (v : Write) → Has v ws → same_id (id_of v) (id_of w) ≡ false
-    other v a = false_from_ne_true (same_id (id_of v) (id_of w)) (λ e. among_not (id_of w) (map id_of ws) d.0 (subst (λ i. Has i (map id_of ws)) (same_id-true (id_of v) (id_of w) e) (has_map id_of v ws a)))
+    other v a = false_from_ne_true (same_id (id_of v) (id_of w))
+        (λ e. among_not (id_of w) (map id_of ws) d.0 (subst (λ i. Has i (map id_of ws)) (same_id-true (id_of v) (id_of w) e) (has_map id_of v ws a)))
 
-    without_it : (vs : List Write) → ((v : Write) → Has v vs → Has v ws) → filter (λ v. not (is_among (id_of v) (id_of w ∷ map id_of (take k ws)))) vs ≡ filter (λ v. not (is_among (id_of v) (map id_of (take k ws)))) vs
+    without_it : (vs : List Write) → ((v : Write) → Has v vs → Has v ws)
+        → filter (λ v. not (is_among (id_of v) (id_of w ∷ map id_of (take k ws)))) vs ≡ filter (λ v. not (is_among (id_of v) (map id_of (take k ws)))) vs
     without_it [] f = refl
     without_it (v ∷ vs) f =
-        ap (λ b. cond (not (b || is_among (id_of v) (map id_of (take k ws)))) (v ∷ filter (λ u. not (is_among (id_of u) (id_of w ∷ map id_of (take k ws)))) vs) (filter (λ u. not (is_among (id_of u) (id_of w ∷ map id_of (take k ws)))) vs)) (other v (f v (inl refl)))
+        ap (λ b. cond (not (b || is_among (id_of v) (map id_of (take k ws)))) (v ∷ filter (λ u. not (is_among (id_of u) (id_of w ∷ map id_of (take k ws)))) vs)
+        (filter (λ u. not (is_among (id_of u) (id_of w ∷ map id_of (take k ws)))) vs)) (other v (f v (inl refl)))
         ∙ ap (λ us. cond (not (is_among (id_of v) (map id_of (take k ws)))) (v ∷ us) us) (without_it vs (λ u a. f u (inr a)))
 
 pub tentative-commit : (r : Replica) (k : ℕ) → IsReplica r → tentative (with_commits r (map id_of (take k (tentative r)))) ≡ drop k (tentative r)
@@ -183,7 +195,8 @@ order-commit r k h =
     ∙ append_assoc (committed r) (take k (tentative r)) (drop k (tentative r))
     ∙ ap (λ ws. committed r ++ ws) (take_drop k (tentative r))
 
-pub place-commit : (r : Replica) (k : ℕ) (v : Write) → IsReplica r → IsReplica (with_commits r (map id_of (take k (tentative r)))) → Has v r.known → place_of (with_commits r (map id_of (take k (tentative r)))) v ≡ place_of r v
+pub place-commit : (r : Replica) (k : ℕ) (v : Write) → IsReplica r → IsReplica (with_commits r (map id_of (take k (tentative r))))
+    → Has v r.known → place_of (with_commits r (map id_of (take k (tentative r)))) v ≡ place_of r v
 place-commit r k v h g a = map_at (place_of new) (place_of r) v (order_of r) all (in_order (known_in_order r v h a))
   where
     new : Replica
@@ -211,10 +224,12 @@ append_split (x ∷ xs) (y ∷ ys) us vs l e =
     ((λ i. here i ∷ p.0 i), p.1)
 
 -- two orders with one front: its writes have the same places, and the later ones are executed on its board
-fronts_agree : (r new : Replica) (front more other : List Write) → IsReplica r → IsReplica new → order_of r ≡ front ++ other → order_of new ≡ front ++ more → (map (place_of new) front ≡ map (place_of r) front) × (map (place_of new) more ≡ replay_on (board_after [] front) more)
+fronts_agree : (r new : Replica) (front more other : List Write) → IsReplica r → IsReplica new → order_of r ≡ front ++ other → order_of new ≡ front ++ more
+    → (map (place_of new) front ≡ map (place_of r) front) × (map (place_of new) more ≡ replay_on (board_after [] front) more)
 fronts_agree r new front more other h k was is = (p.0 ∙ sym q.0, p.1)
   where
-    parts : (x : Replica) (rest : List Write) → IsReplica x → order_of x ≡ front ++ rest → (map (place_of x) front ≡ replay_on [] front) × (map (place_of x) rest ≡ replay_on (board_after [] front) rest)
+    parts : (x : Replica) (rest : List Write) → IsReplica x → order_of x ≡ front ++ rest
+        → (map (place_of x) front ≡ replay_on [] front) × (map (place_of x) rest ≡ replay_on (board_after [] front) rest)
     parts x rest g e =
         append_split (map (place_of x) front) (replay_on [] front) (map (place_of x) rest) (replay_on (board_after [] front) rest)
         (length-map front (place_of x) ∙ sym (length-replay_on [] front))
@@ -232,7 +247,8 @@ put_between : (w : Write) (ws : List Write) → (xs : List Write) × (ys : List 
 put_between w [] = ([], [], refl, refl)
 put_between w (x ∷ xs) = go (stamp_before w x) (put_between w xs)
   where
-    go : (b : Bool) → (us : List Write) × (vs : List Write) × (xs ≡ us ++ vs) × (with_write w xs ≡ us ++ w ∷ vs) → (us : List Write) × (vs : List Write) × (x ∷ xs ≡ us ++ vs) × (cond b (w ∷ x ∷ xs) (x ∷ with_write w xs) ≡ us ++ w ∷ vs)
+    go : (b : Bool) → (us : List Write) × (vs : List Write) × (xs ≡ us ++ vs) × (with_write w xs ≡ us ++ w ∷ vs)
+        → (us : List Write) × (vs : List Write) × (x ∷ xs ≡ us ++ vs) × (cond b (w ∷ x ∷ xs) (x ∷ with_write w xs) ≡ us ++ w ∷ vs)
     go true p = ([], x ∷ xs, refl, refl)
     go false (us, vs, e, f) = (x ∷ us, vs, ap (λ zs. x ∷ zs) e, ap (λ zs. x ∷ zs) f)
 
@@ -290,7 +306,8 @@ without_between x [] ys d =
     (ap not (has_among (id_of x) (id_of x ∷ []) (inl refl)))
     ∙ without_id (id_of x) ys (λ v a e. among_not (id_of x) (map id_of ys) d.0 (subst (λ i. Has i (map id_of ys)) e (has_map id_of v ys a)))
 without_between x (w ∷ xs) ys d =
-    cond-true (not (is_among (id_of w) (id_of x ∷ []))) (w ∷ filter (λ v. not (is_among (id_of v) (id_of x ∷ []))) (xs ++ x ∷ ys)) (filter (λ v. not (is_among (id_of v) (id_of x ∷ []))) (xs ++ x ∷ ys))
+    cond-true (not (is_among (id_of w) (id_of x ∷ []))) (w ∷ filter (λ v. not (is_among (id_of v) (id_of x ∷ []))) (xs ++ x ∷ ys))
+    (filter (λ v. not (is_among (id_of v) (id_of x ∷ []))) (xs ++ x ∷ ys))
     (ap not (not_among (id_of w) (id_of x ∷ []) other))
     ∙ ap (λ (vs : List Write). w ∷ vs) (without_between x xs ys d.1)
   where
@@ -350,8 +367,10 @@ commit_fates r k room h =
     ∙ filter-append (λ (w : Write). bytes_eq w.room room) (committed r) (tentative r))
 
 -- a submission and a cancel that nothing refuses make the next write of the replica, of a room that it knows
-pub submission_next : (r : Replica) (s : Submission) → IsReplica r → first_refusal (submit_faults r s) ≡ None → IsTrue (is_write (write_of r s)) × ((write_of r s).stamp ≡ next_stamp r) × (knows_room r s.room ≡ true)
+pub submission_next : (r : Replica) (s : Submission) → IsReplica r → first_refusal (submit_faults r s) ≡ None
+    → IsTrue (is_write (write_of r s)) × ((write_of r s).stamp ≡ next_stamp r) × (knows_room r s.room ≡ true)
 submission_next r s h none = (submitted_within r s h none, refl, not-false (knows_room r s.room) (none_apply (submit_faults r s) none).1.1.1.1.1.1.0)
 
-pub cancel_next : (r : Replica) (room id : Text) → IsReplica r → first_refusal (cancel_faults r room id) ≡ None → IsTrue (is_write (cancel_write r room id)) × ((cancel_write r room id).stamp ≡ next_stamp r) × (knows_room r room ≡ true)
+pub cancel_next : (r : Replica) (room id : Text) → IsReplica r → first_refusal (cancel_faults r room id) ≡ None
+    → IsTrue (is_write (cancel_write r room id)) × ((cancel_write r room id).stamp ≡ next_stamp r) × (knows_room r room ≡ true)
 cancel_next r room id h none = (cancelled_within r room id h none, refl, not-false (knows_room r room) (none_apply (cancel_faults r room id) none).1.0)

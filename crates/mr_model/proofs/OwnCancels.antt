@@ -119,7 +119,8 @@ module _ (r : Replica) (w : Write) (h : IsReplica r) (n : IsNext r w) (late : cl
       ∙ ap (λ o. option_map placed_id (or_else o (cancel_of (id_of w) (last r w ∷ []))))
       (never_done (id_of w) [] (order_list r w.room) (run-among false [] (of_room w.room (order_of r))) (λ b x s. x)
       (λ p a s. new_id r w p.write h n (order_placed r w.room p h a).0 s))
-      ∙ ap (option_map placed_id) (cond-false (cancels_it (id_of w) w.action (last r w).place) (Some (last r w)) None (not_now (id_of w) (after [] (of_room w.room (order_of r))) w.action (last r w).place refl free))
+      ∙ ap (option_map placed_id)
+      (cond-false (cancels_it (id_of w) w.action (last r w).place) (Some (last r w)) None (not_now (id_of w) (after [] (of_room w.room (order_of r))) w.action (last r w).place refl free))
     where
       free : Free (id_of w) (after [] (of_room w.room (order_of r)))
       free b a s =
@@ -145,7 +146,8 @@ module _ (r : Replica) (w : Write) (h : IsReplica r) (n : IsNext r w) (late : cl
   taken_row (rows.Erred row) b e f = absurd (none_some b e)
   taken_row (rows.Cancel row) b e f = absurd (none_some b e)
 
-  pub row_taken : (v : Write) → Has v r.known → takes_back r w (id_of v) ≡ true → (row : BookingRow) × (place_row r v ≡ rows.Booked row) × (place_row (add_write r w) v ≡ rows.Cancelled (taken_back (id_of w) row))
+  pub row_taken : (v : Write) → Has v r.known → takes_back r w (id_of v) ≡ true
+      → (row : BookingRow) × (place_row r v ≡ rows.Booked row) × (place_row (add_write r w) v ≡ rows.Cancelled (taken_back (id_of w) row))
   row_taken v k e =
       let s = takes_standing v k e in
       let (row, f) = taken_row (place_row r v) s.2.0 (row-made r v ∙ s.2.1) (row-cancel r v s.2.0 s.2.1 ∙ s.1) in

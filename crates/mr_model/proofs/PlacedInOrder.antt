@@ -10,6 +10,7 @@ use Rattle.mr_model.specs.Board.{after}
 use Rattle.mr_model.specs.View.{View, Placed, placed_with, whole_places, committed_places, cancels_it, cancel_of, tell, booking_unless, booked_told, whole_list, committed_list}
 use Rattle.mr_model.proofs.UniqueReplay.{length-replay, booked_after}
 use Rattle.mr_model.proofs.RoomsApart.{replay-append, after-append}
+use Rattle.mr_model.proofs.Lists.{filter_true}
 
 -- the writes executed one after the other, from these bookings on
 abbrev pub placed_among : Bool → List Booking → List Write → List Placed
@@ -19,7 +20,8 @@ placed_among mark bs (w ∷ ws) =
 
 pub placed_with-replay : (mark : Bool) (bs : List Booking) (ws : List Write) (ps : List Place) → placed_with mark ws (replay_among bs ws ++ ps) ≡ placed_among mark bs ws
 placed_with-replay mark bs [] ps = refl
-placed_with-replay mark bs (w ∷ ws) ps = ap (λ (ts : List Placed). record { write = w; is_committed = mark; place = place_among bs w } ∷ ts) (placed_with-replay mark (booked_with bs w (place_among bs w)) ws ps)
+placed_with-replay mark bs (w ∷ ws) ps =
+    ap (λ (ts : List Placed). record { write = w; is_committed = mark; place = place_among bs w } ∷ ts) (placed_with-replay mark (booked_with bs w (place_among bs w)) ws ps)
 
 drop-all : {A : Type 0} (xs ys : List A) (n : ℕ) → n ≡ length xs → drop n (xs ++ ys) ≡ ys
 drop-all [] ys n e = ap (λ m. drop m ys) e
@@ -81,10 +83,6 @@ booked_by-whole v =
 abbrev pub stays : List Placed → Booking → Bool
 stays ps b = is_none (cancel_of b.id ps)
 
-filter-all : {A : Type 0} (xs : List A) → filter (λ x. true) xs ≡ xs
-filter-all [] = refl
-filter-all (x ∷ xs) = ap (λ ys. x ∷ ys) (filter-all xs)
-
 filter-filter : {A : Type 0} (f g h : A → Bool) (xs : List A) → ((x : A) → cond (g x) (f x) false ≡ h x) → filter f (filter g xs) ≡ filter h xs
 filter-filter f g h [] e = refl
 filter-filter f g h (x ∷ xs) e = go (g x) (f x) (h x) refl (e x) (filter-filter f g h xs e)
@@ -117,7 +115,8 @@ nothing_told w p None e = ap (booking_of w) e
 nothing_told w p (Some q) e = refl
 
 -- one write: what stays of the bookings before and of its own
-one_told : (bs : List Booking) (q : Placed) (ps : List Placed) → filter (stays ps) (booked_with bs q.write q.place) ≡ filter (stays (q ∷ ps)) bs ++ booking_unless (cancel_of (id_of q.write) ps) q.write q.place
+one_told : (bs : List Booking) (q : Placed) (ps : List Placed)
+    → filter (stays ps) (booked_with bs q.write q.place) ≡ filter (stays (q ∷ ps)) bs ++ booking_unless (cancel_of (id_of q.write) ps) q.write q.place
 one_told bs q ps = go q.place refl
   where
     w : Write
@@ -157,7 +156,7 @@ one_told bs q ps = go q.place refl
         done w.action refl e ∙ sym (append-nil (filter (stays (q ∷ ps)) bs)) ∙ ap (λ cs. filter (stays (q ∷ ps)) bs ++ cs) (sym (nothing_told w Done (cancel_of (id_of w) ps) refl))
 
 pub told-stand : (bs : List Booking) (ps : List Placed) → booked_by bs ps ≡ filter (stays ps) bs ++ flat_map booked_told (tell ps)
-told-stand bs [] = sym (append-nil (filter (λ b. true) bs) ∙ filter-all bs)
+told-stand bs [] = sym (append-nil (filter (λ b. true) bs) ∙ filter_true bs)
 told-stand bs (q ∷ ps) =
     told-stand (booked_with bs q.write q.place) ps
     ∙ ap (λ cs. cs ++ flat_map booked_told (tell ps)) (one_told bs q ps)

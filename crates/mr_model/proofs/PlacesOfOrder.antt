@@ -13,7 +13,8 @@ use Rattle.mr_model.specs.Replica.{Replica, is_committed, write_with, committed,
 use Rattle.mr_model.specs.View.{of_room, view_of, Placed, whole_places, placed_in, place_or_logged, place_of}
 use Rattle.mr_model.specs.Board.{after, RoomBooking, place_on, booked_on, replay_on, board_replay, places_of_room}
 use Rattle.mr_model.specs.Dropped.{Has}
-use Rattle.mr_model.proofs.Members.{has_left, has_right, has_split, has_filter, filter_has, has_map, map_has, has_filter_map, same_id-true, same_id_refl, has_among, among_has, among_not, not_among, Distinct}
+use Rattle.mr_model.proofs.Members.{has_left, has_right, has_split, has_filter, filter_has, has_map, map_has, has_filter_map}
+use Rattle.mr_model.proofs.Members.{same_id-true, same_id_refl, has_among, among_has, among_not, not_among, Distinct}
 use Rattle.mr_model.proofs.KnownById.{with_id, committed_known, tentative_known, distinct_order}
 use Rattle.mr_model.proofs.RoomsApart.{replay-append, rooms_apart}
 use Rattle.mr_model.proofs.PlacedInOrder.{placed_among, whole-places, placed_id}
@@ -30,10 +31,12 @@ placed-ids mark bs (w ∷ ws) = ap (λ (is : List Id). id_of w ∷ is) (placed-i
 
 pub placed_here : (t : Placed) (ts : List Placed) → Distinct (map placed_id ts) → Has t ts → placed_in (placed_id t) ts ≡ Some t
 placed_here t [] d h = absurd h
-placed_here t (x ∷ xs) d (inl e) = cond-true (same_id (placed_id x) (placed_id t)) (Some x) (placed_in (placed_id t) xs) (subst (λ y. same_id (placed_id y) (placed_id t) ≡ true) e (same_id_refl (placed_id t))) ∙ ap Some (sym e)
+placed_here t (x ∷ xs) d (inl e) =
+    cond-true (same_id (placed_id x) (placed_id t)) (Some x) (placed_in (placed_id t) xs) (subst (λ y. same_id (placed_id y) (placed_id t) ≡ true) e (same_id_refl (placed_id t))) ∙ ap Some (sym e)
 placed_here t (x ∷ xs) d (inr h) =
     cond-false (same_id (placed_id x) (placed_id t)) (Some x) (placed_in (placed_id t) xs)
-    (false_from_ne_true (same_id (placed_id x) (placed_id t)) (λ e. among_not (placed_id x) (map placed_id xs) d.0 (subst (λ i. Has i (map placed_id xs)) (sym (same_id-true (placed_id x) (placed_id t) e)) (has_map placed_id t xs h))))
+    (false_from_ne_true (same_id (placed_id x) (placed_id t))
+    (λ e. among_not (placed_id x) (map placed_id xs) d.0 (subst (λ i. Has i (map placed_id xs)) (sym (same_id-true (placed_id x) (placed_id t) e)) (has_map placed_id t xs h))))
     ∙ placed_here t xs d.1 h
 
 -- ---- filtered lists of writes with different ids
@@ -43,7 +46,11 @@ distinct_filter p [] d = tt
 distinct_filter p (w ∷ ws) d = go (p w) (distinct_filter p ws d.1)
   where
     go : (b : Bool) → Distinct (map id_of (filter p ws)) → Distinct (map id_of (cond b (w ∷ filter p ws) (filter p ws)))
-    go true r = (not_among (id_of w) (map id_of (filter p ws)) (λ h. let (v, g, e) = map_has id_of (id_of w) (filter p ws) h in among_not (id_of w) (map id_of ws) d.0 (subst (λ i. Has i (map id_of ws)) (sym e) (has_map id_of v ws (filter_has p v ws g).0))), r)
+    go true r = (
+      not_among (id_of w) (map id_of (filter p ws)) (λ h. let (v, g, e) = map_has id_of (id_of w) (filter p ws) h in
+          among_not (id_of w) (map id_of ws) d.0 (subst (λ i. Has i (map id_of ws)) (sym e) (has_map id_of v ws (filter_has p v ws g).0))),
+      r,
+    )
     go false r = r
 
 -- what is told of a room
@@ -181,7 +188,8 @@ places-of_map : (room : Text) (f : Write → Place) (ws : List Write) → places
 places-of_map room f [] = refl
 places-of_map room f (w ∷ ws) = go (bytes_eq w.room room) (places-of_map room f ws)
   where
-    go : (b : Bool) → places_of_room room ws (map f ws) ≡ map f (of_room room ws) → cond b (f w ∷ places_of_room room ws (map f ws)) (places_of_room room ws (map f ws)) ≡ map f (cond b (w ∷ of_room room ws) (of_room room ws))
+    go : (b : Bool) → places_of_room room ws (map f ws) ≡ map f (of_room room ws)
+        → cond b (f w ∷ places_of_room room ws (map f ws)) (places_of_room room ws (map f ws)) ≡ map f (cond b (w ∷ of_room room ws) (of_room room ws))
     go true ih = ap (λ ps. f w ∷ ps) ih
     go false ih = ih
 
@@ -202,7 +210,8 @@ by_rooms (w ∷ ws) (p ∷ ps) (q ∷ qs) a b f =
     first true t e = let g : p ∷ places_of_room w.room ws ps ≡ q ∷ places_of_room w.room ws qs = e in cc
     first false t e = absurd (true≢false (sym t))
 
-    later : (room : Text) (c : Bool) → cond c (p ∷ places_of_room room ws ps) (places_of_room room ws ps) ≡ cond c (q ∷ places_of_room room ws qs) (places_of_room room ws qs) → places_of_room room ws ps ≡ places_of_room room ws qs
+    later : (room : Text) (c : Bool) → cond c (p ∷ places_of_room room ws ps) (places_of_room room ws ps) ≡ cond c (q ∷ places_of_room room ws qs) (places_of_room room ws qs)
+        → places_of_room room ws ps ≡ places_of_room room ws qs
     later room true e = let g : p ∷ places_of_room room ws ps ≡ q ∷ places_of_room room ws qs = e in ap (λ (xs : List Place). drop 1 xs) g
     later room false e = e
 

@@ -1,5 +1,6 @@
 -- What is told of a room is told of its known writes, each once: with its mark, its place, and the cancel that took it back.
-use Rattle.std.proofs.Common.{◌≡◌, refl, sym, ap, ◌∙◌, subst, ◌≤◌, Bool, true, false, not, ◌&&◌, eqb, leb, List, [], ◌∷◌, length, map, ◌⊎◌, inl, inr, Option, Some, None, arith, leb-true, ne_eqb, eq-eqb}
+use Rattle.std.proofs.Common.{◌≡◌, refl, sym, ap, ◌∙◌, subst, ◌≤◌, Bool, true, false, not, ◌&&◌, eqb, leb, List, []}
+use Rattle.std.proofs.Common.{◌∷◌, length, map, ◌⊎◌, inl, inr, Option, Some, None, arith, leb-true, ne_eqb, eq-eqb}
 use Rattle.std.proofs.lemmas.Bool.{false_from_ne_true, and_parts, cond-true, cond-false}
 use Rattle.std.specs.Prelude.{option_map}
 use Rattle.std.specs.List.{list_all}
@@ -44,10 +45,12 @@ told-ids (p ∷ ps) = ap (λ (is : List Id). placed_id p ∷ is) (told-ids ps)
 
 pub told_here : (t : Told) (ts : List Told) → Distinct (map told_id ts) → Has t ts → told_of (told_id t) ts ≡ Some t
 told_here t [] d h = absurd h
-told_here t (x ∷ xs) d (inl e) = cond-true (same_id (told_id x) (told_id t)) (Some x) (told_of (told_id t) xs) (subst (λ y. same_id (told_id y) (told_id t) ≡ true) e (same_id_refl (told_id t))) ∙ ap Some (sym e)
+told_here t (x ∷ xs) d (inl e) =
+    cond-true (same_id (told_id x) (told_id t)) (Some x) (told_of (told_id t) xs) (subst (λ y. same_id (told_id y) (told_id t) ≡ true) e (same_id_refl (told_id t))) ∙ ap Some (sym e)
 told_here t (x ∷ xs) d (inr h) =
     cond-false (same_id (told_id x) (told_id t)) (Some x) (told_of (told_id t) xs)
-    (false_from_ne_true (same_id (told_id x) (told_id t)) (λ e. among_not (told_id x) (map told_id xs) d.0 (subst (λ i. Has i (map told_id xs)) (sym (same_id-true (told_id x) (told_id t) e)) (has_map told_id t xs h))))
+    (false_from_ne_true (same_id (told_id x) (told_id t))
+    (λ e. among_not (told_id x) (map told_id xs) d.0 (subst (λ i. Has i (map told_id xs)) (sym (same_id-true (told_id x) (told_id t) e)) (has_map told_id t xs h))))
     ∙ told_here t xs d.1 h
 
 abbrev pub room_list : Replica → Text → List Told

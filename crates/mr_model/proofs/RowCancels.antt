@@ -32,7 +32,7 @@ made_at w o = option_map (λ s. record { id = id_of w; slot = s; length = length
 abbrev pub made : Replica → Write → Option Booking
 made r w = made_at w (slot_at w (place_of r w))
 
-cancel_slot : (w : Write) (t : Id) (p : Place) → w.action ≡ Cancels t → slot_at w p ≡ None
+pub cancel_slot : (w : Write) (t : Id) (p : Place) → w.action ≡ Cancels t → slot_at w p ≡ None
 cancel_slot w t (Taken k) e = ap (λ a. slice_get (choices_in a) k) e
 cancel_slot w t Logged e = refl
 cancel_slot w t Done e = refl

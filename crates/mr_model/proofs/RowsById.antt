@@ -1,5 +1,6 @@
 -- Rows of tables: by the id that they bear, whole tables against single rows; and what a log row keeps of a write.
-use Rattle.std.proofs.Common.{◌≡◌, refl, sym, ap, ◌∙◌, subst, ℕ, zero, suc, ◌+◌, ◌*◌, ◌<◌, ◌≤◌, Bool, true, false, not, cond, ◌&&◌, eqb, leb, List, [], ◌∷◌, ◌++◌, length, map, drop, ◌⊎◌, inl, inr, Option, Some, None, arith, append_assoc, IsTrue, leb-true, eqb-true, slice_index, length-append}
+use Rattle.std.proofs.Common.{◌≡◌, refl, sym, ap, ◌∙◌, subst, ℕ, zero, suc, ◌+◌, ◌*◌, ◌<◌, ◌≤◌, Bool, true, false, not, cond, ◌&&◌, eqb, leb, List, [], ◌∷◌, ◌++◌}
+use Rattle.std.proofs.Common.{length, map, drop, ◌⊎◌, inl, inr, Option, Some, None, arith, append_assoc, IsTrue, leb-true, eqb-true, slice_index, length-append}
 use Rattle.std.proofs.lemmas.Bool.{and_parts, or_parts, cond-true, cond-false, false_from_ne_true, cases_eq}
 use Rattle.std.proofs.lemmas.List.Elements.{filter_map-append}
 use Rattle.std.specs.Prelude.{flat_map}
@@ -7,7 +8,8 @@ use Rattle.std.specs.List.{AllByRecursion, list_all, filter, filter_map, cons_op
 use Rattle.mr_model.specs.Texts.{Text, words, numbers_on}
 use Rattle.mr_model.specs.Calendar.{date_text, time_text}
 use Rattle.mr_model.specs.Slots.{Slot, is_slot, slot_words}
-use Rattle.mr_model.specs.Writes.{Id, Meeting, Action, Books, Cancels, Write, id_of, same_id, choices_of, is_title, is_length, fits_day, greatest_alternatives, is_meeting, is_action, is_write, is_server, is_count, is_time, is_stamp, is_room_name}
+use Rattle.mr_model.specs.Writes.{Id, Meeting, Action, Books, Cancels, Write, id_of, same_id, choices_of, is_title, is_length, fits_day}
+use Rattle.mr_model.specs.Writes.{greatest_alternatives, is_meeting, is_action, is_write, is_server, is_count, is_time, is_stamp, is_room_name}
 use Rattle.mr_model.specs.Replica.{Replica, writes_of, count_of, is_among, IsReplica}
 use Rattle.mr_model.specs.Exchange.{slots_at}
 use Rattle.mr_model.specs.Tables.{MeetingCells, OfMeeting, OfCancel, LogRow, by_id, seq_among, choices_text, cells_of, log_row}
@@ -63,7 +65,8 @@ by_id_has r w a = let (s, b, c) = flat_has (λ s. writes_of s r.known) w (number
 
 -- ---- a table, row by row
 
-rows_numbered : {R : Type 0} (f g : Write → Option R) (k : ℕ) (xs ys : List Write) → map (λ w. w.stamp.n) xs ≡ numbers_on k (length xs) → map (λ w. w.stamp.n) ys ≡ numbers_on k (length ys) → length xs ≡ length ys → ((x y : Write) → Has x xs → Has y ys → x.stamp.n ≡ y.stamp.n → f x ≡ g y) → filter_map f xs ≡ filter_map g ys
+rows_numbered : {R : Type 0} (f g : Write → Option R) (k : ℕ) (xs ys : List Write) → map (λ w. w.stamp.n) xs ≡ numbers_on k (length xs) → map (λ w. w.stamp.n) ys ≡ numbers_on k (length ys)
+    → length xs ≡ length ys → ((x y : Write) → Has x xs → Has y ys → x.stamp.n ≡ y.stamp.n → f x ≡ g y) → filter_map f xs ≡ filter_map g ys
 rows_numbered f g k [] [] a b l e = refl
 rows_numbered f g k [] (y ∷ ys) a b l e = absurd (let t : 0 ≡ suc (length ys) = l in omega (arith, t))
 rows_numbered f g k (x ∷ xs) [] a b l e = absurd (let t : suc (length xs) ≡ 0 = l in omega (arith, t))
@@ -72,14 +75,16 @@ rows_numbered f g k (x ∷ xs) (y ∷ ys) a b l e =
     let other : y.stamp.n ≡ k = ap (λ (ms : List ℕ). slice_index ms 0) b in
     let long : suc (length xs) ≡ suc (length ys) = l in
     let here : f x ≡ g y = e x y (inl refl) (inl refl) (first ∙ sym other) in
-    let rest : filter_map f xs ≡ filter_map g ys = rows_numbered f g (k + 1) xs ys (ap (λ (ms : List ℕ). drop 1 ms) a) (ap (λ (ms : List ℕ). drop 1 ms) b) (omega (arith, long)) (λ v w p q s. e v w (inr p) (inr q) s) in
+    let rest : filter_map f xs ≡ filter_map g ys =
+    rows_numbered f g (k + 1) xs ys (ap (λ (ms : List ℕ). drop 1 ms) a) (ap (λ (ms : List ℕ). drop 1 ms) b) (omega (arith, long)) (λ v w p q s. e v w (inr p) (inr q) s) in
     ap (λ o. cons_option o (filter_map f xs)) here ∙ ap (λ rs. cons_option (g y) rs) rest
 
 -- rows of writes that bear the same ids
 abbrev pub Paired : {R : Type 0} → Replica → Replica → (Write → R) → (Write → R) → Type 0
 Paired a b f g = (x y : Write) → Has x a.known → Has y b.known → id_of x ≡ id_of y → f x ≡ g y
 
-pub rows_from_pairs : {R : Type 0} (a b : Replica) (f g : Write → Option R) → IsReplica a → IsReplica b → ((s : ℕ) → count_of a s ≡ count_of b s) → Paired a b f g → filter_map f (by_id a.known) ≡ filter_map g (by_id b.known)
+pub rows_from_pairs : {R : Type 0} (a b : Replica) (f g : Write → Option R) → IsReplica a → IsReplica b
+    → ((s : ℕ) → count_of a s ≡ count_of b s) → Paired a b f g → filter_map f (by_id a.known) ≡ filter_map g (by_id b.known)
 rows_from_pairs a b f g ha hb counts e = go (numbers_on 1 99)
   where
     id_at : (s : ℕ) (x y : Write) → x.stamp.server ≡ s → y.stamp.server ≡ s → x.stamp.n ≡ y.stamp.n → id_of x ≡ id_of y
@@ -88,7 +93,8 @@ rows_from_pairs a b f g ha hb counts e = go (numbers_on 1 99)
     one : (s : ℕ) → filter_map f (writes_of s a.known) ≡ filter_map g (writes_of s b.known)
     one s =
         rows_numbered f g 1 (writes_of s a.known) (writes_of s b.known) (numbered_writes a s ha) (numbered_writes b s hb) (counts s)
-        (λ x y p q n. let u = filter_has (λ w. eqb w.stamp.server s) x a.known p in let v = filter_has (λ w. eqb w.stamp.server s) y b.known q in e x y u.0 v.0 (id_at s x y (eqb-true x.stamp.server s u.1) (eqb-true y.stamp.server s v.1) n))
+        (λ x y p q n. let u = filter_has (λ w. eqb w.stamp.server s) x a.known p in let v = filter_has (λ w. eqb w.stamp.server s) y b.known q in
+        e x y u.0 v.0 (id_at s x y (eqb-true x.stamp.server s u.1) (eqb-true y.stamp.server s v.1) n))
 
     go : (ss : List ℕ) → filter_map f (flat_map (λ s. writes_of s a.known) ss) ≡ filter_map g (flat_map (λ s. writes_of s b.known) ss)
     go [] = refl
@@ -99,13 +105,15 @@ rows_from_pairs a b f g ha hb counts e = go (numbers_on 1 99)
         ∙ sym (filter_map-append g (writes_of s b.known) (flat_map (λ t. writes_of t b.known) ss))
 
 -- where each row bears the id of its write, one table has one row of an id
-row_in : {R : Type 0} (b : Replica) (g : Write → Option R) (key : R → Id) → IsReplica b → ((y : Write) (w : R) → g y ≡ Some w → key w ≡ id_of y) → (y : Write) (w : R) → Has y b.known → Has w (filter_map g (by_id b.known)) → key w ≡ id_of y → g y ≡ Some w
+row_in : {R : Type 0} (b : Replica) (g : Write → Option R) (key : R → Id) → IsReplica b → ((y : Write) (w : R) → g y ≡ Some w → key w ≡ id_of y)
+    → (y : Write) (w : R) → Has y b.known → Has w (filter_map g (by_id b.known)) → key w ≡ id_of y → g y ≡ Some w
 row_in b g key hb keyed y w q h k =
     let (z, i, e) = filter_map_has g w (by_id b.known) h in
     let same : z ≡ y = one_known b z y hb (by_id_has b z i) q (sym (keyed z w e) ∙ k) in
     ap g (sym same) ∙ e
 
-pub pairs_from_rows : {R : Type 0} (a b : Replica) (f g : Write → Option R) (key : R → Id) → IsReplica a → IsReplica b → ((x : Write) (w : R) → f x ≡ Some w → key w ≡ id_of x) → ((y : Write) (w : R) → g y ≡ Some w → key w ≡ id_of y) → filter_map f (by_id a.known) ≡ filter_map g (by_id b.known) → Paired a b f g
+pub pairs_from_rows : {R : Type 0} (a b : Replica) (f g : Write → Option R) (key : R → Id) → IsReplica a → IsReplica b → ((x : Write) (w : R) → f x ≡ Some w → key w ≡ id_of x)
+    → ((y : Write) (w : R) → g y ≡ Some w → key w ≡ id_of y) → filter_map f (by_id a.known) ≡ filter_map g (by_id b.known) → Paired a b f g
 pairs_from_rows {R = R} a b f g key ha hb kf kg e x y p q s = go (f x) refl (g y) refl
   where
     there : (w : R) → f x ≡ Some w → g y ≡ Some w
@@ -124,26 +132,31 @@ pub map_filter : {A B : Type 0} (d : A → Bool) (f : A → B) (xs : List A) →
 map_filter d f [] = refl
 map_filter {A = A} {B = B} d f (x ∷ xs) = go (d x) (map_filter d f xs)
   where
-    go : (b : Bool) → map f (filter (λ y. not (d y)) xs) ≡ filter_map (λ y. cond (d y) None (Some (f y))) xs → map f (cond (not b) (x ∷ filter (λ y. not (d y)) xs) (filter (λ y. not (d y)) xs)) ≡ cons_option (cond b None (Some (f x))) (filter_map (λ y. cond (d y) None (Some (f y))) xs)
+    go : (b : Bool) → map f (filter (λ y. not (d y)) xs) ≡ filter_map (λ y. cond (d y) None (Some (f y))) xs
+        → map f (cond (not b) (x ∷ filter (λ y. not (d y)) xs) (filter (λ y. not (d y)) xs)) ≡ cons_option (cond b None (Some (f x))) (filter_map (λ y. cond (d y) None (Some (f y))) xs)
     go true ih = ih
     go false ih = ap (λ ys. f x ∷ ys) ih
 
 -- ---- the text of choices
 
-words-snoc : (t : Text) (ts : List Text) → words (t ∷ (ts ++ [] ∷ [])) ≡ words (t ∷ ts) ++ 32 ∷ []
+pub words-snoc : (t : Text) (ts : List Text) → words (t ∷ (ts ++ [] ∷ [])) ≡ words (t ∷ ts) ++ 32 ∷ []
 words-snoc t [] = refl
 words-snoc t (u ∷ us) = ap (λ x. t ++ 32 ∷ x) (words-snoc u us) ∙ sym (append_assoc t (32 ∷ words (u ∷ us)) (32 ∷ []))
 
-slots_long : (ss : List Slot) → length (words (flat_map slot_words ss ++ [] ∷ [])) ≡ 17 * length ss
+pub slots_long : (ss : List Slot) → length (words (flat_map slot_words ss ++ [] ∷ [])) ≡ 17 * length ss
 slots_long [] = refl
 slots_long (s ∷ ss) =
     let rest : length (words (flat_map slot_words ss ++ [] ∷ [])) ≡ 17 * length ss = slots_long ss in
-    let time : length (words (time_text s.start ∷ (flat_map slot_words ss ++ [] ∷ []))) ≡ length (time_text s.start ++ 32 ∷ words (flat_map slot_words ss ++ [] ∷ [])) = ap length (words-cons (time_text s.start) (flat_map slot_words ss) []) in
-    let more : length (time_text s.start ++ 32 ∷ words (flat_map slot_words ss ++ [] ∷ [])) ≡ 5 + (1 + length (words (flat_map slot_words ss ++ [] ∷ []))) = length-append (time_text s.start) (32 ∷ words (flat_map slot_words ss ++ [] ∷ [])) ∙ omega arith in
-    let day : length (date_text s.day ++ 32 ∷ words (time_text s.start ∷ (flat_map slot_words ss ++ [] ∷ []))) ≡ 10 + (1 + length (words (time_text s.start ∷ (flat_map slot_words ss ++ [] ∷ [])))) = length-append (date_text s.day) (32 ∷ words (time_text s.start ∷ (flat_map slot_words ss ++ [] ∷ []))) ∙ omega arith in
+    let time : length (words (time_text s.start ∷ (flat_map slot_words ss ++ [] ∷ [])))
+    ≡ length (time_text s.start ++ 32 ∷ words (flat_map slot_words ss ++ [] ∷ [])) = ap length (words-cons (time_text s.start) (flat_map slot_words ss) []) in
+    let more : length (time_text s.start ++ 32 ∷ words (flat_map slot_words ss ++ [] ∷ [])) ≡ 5 + (1 + length (words (flat_map slot_words ss ++ [] ∷ []))) =
+    length-append (time_text s.start) (32 ∷ words (flat_map slot_words ss ++ [] ∷ [])) ∙ omega arith in
+    let day : length (date_text s.day ++ 32 ∷ words (time_text s.start ∷ (flat_map slot_words ss ++ [] ∷ []))) ≡ 10 + (1 + length (words (time_text s.start ∷ (flat_map slot_words ss ++ [] ∷ [])))) =
+    length-append (date_text s.day) (32 ∷ words (time_text s.start ∷ (flat_map slot_words ss ++ [] ∷ []))) ∙ omega arith in
     day ∙ omega (arith, rest, time, more)
 
-slots_same : (ss ts : List Slot) → AllByRecursion (λ s. is_slot s ≡ true) ss → AllByRecursion (λ s. is_slot s ≡ true) ts → words (flat_map slot_words ss ++ [] ∷ []) ≡ words (flat_map slot_words ts ++ [] ∷ []) → ss ≡ ts
+slots_same : (ss ts : List Slot) → AllByRecursion (λ s. is_slot s ≡ true) ss → AllByRecursion (λ s. is_slot s ≡ true) ts
+    → words (flat_map slot_words ss ++ [] ∷ []) ≡ words (flat_map slot_words ts ++ [] ∷ []) → ss ≡ ts
 slots_same ss ts a b e =
     let long : 17 * length ss ≡ 17 * length ts = sym (slots_long ss) ∙ ap length e ∙ slots_long ts in
     let n : length ss ≡ length ts = omega (arith, long) in
@@ -151,7 +164,7 @@ slots_same ss ts a b e =
     ∙ ap (λ l. slots_at (length ss) 0 l) e ∙ ap (λ k. slots_at k 0 (words (flat_map slot_words ts ++ [] ∷ []))) n
     ∙ slots-read ts 0 (words (flat_map slot_words ts ++ [] ∷ [])) [] b refl
 
-meeting_slots : (m : Meeting) → is_meeting m ≡ true → AllByRecursion (λ s. is_slot s ≡ true) (choices_of m)
+pub meeting_slots : (m : Meeting) → is_meeting m ≡ true → AllByRecursion (λ s. is_slot s ≡ true) (choices_of m)
 meeting_slots m ok =
     slots_all m.length (choices_of m)
     (and_parts (is_title m.title && is_length m.length && leb (length m.alternatives) greatest_alternatives) (list_all (λ s. is_slot s && fits_day m.length s) (choices_of m)) ok).1
@@ -214,7 +227,9 @@ seq_low k (x ∷ xs) id = go (same_id x id) (seq_low (k + 1) xs id)
 
 pub seq_has : (k : ℕ) (ids : List Id) (id : Id) → Has id ids → k ≤ seq_among k ids id
 seq_has k [] id h = absurd h
-seq_has k (x ∷ xs) id (inl e) = let here : cond (same_id x id) k (seq_among (k + 1) xs id) ≡ k = cond-true (same_id x id) k (seq_among (k + 1) xs id) (subst (λ y. same_id x y ≡ true) (sym e) (same_id_refl x)) in omega (arith, here)
+seq_has k (x ∷ xs) id (inl e) =
+    let here : cond (same_id x id) k (seq_among (k + 1) xs id) ≡ k = cond-true (same_id x id) k (seq_among (k + 1) xs id) (subst (λ y. same_id x y ≡ true) (sym e) (same_id_refl x)) in
+    omega (arith, here)
 seq_has k (x ∷ xs) id (inr h) = go (same_id x id) (seq_has (k + 1) xs id h)
   where
     go : (b : Bool) → k + 1 ≤ seq_among (k + 1) xs id → k ≤ cond b k (seq_among (k + 1) xs id)

@@ -53,12 +53,14 @@ passing_put p x (y ∷ ys) s = go (row_before x y) refl (passing_put p x ys s.1)
         at row (inl f) = ap (row_before x) f ∙ e
         at row (inr h) = still_before x y row e (all_has (NotAfter y) row ys s.0 h)
 
-    later : row_before x y ≡ false → (c d : Bool) → cond c (y ∷ cond d (put_row x (filter p ys)) (filter p ys)) (cond d (put_row x (filter p ys)) (filter p ys)) ≡ cond d (put_row x (cond c (y ∷ filter p ys) (filter p ys))) (cond c (y ∷ filter p ys) (filter p ys))
+    later : row_before x y ≡ false → (c d : Bool) → cond c (y ∷ cond d (put_row x (filter p ys)) (filter p ys)) (cond d (put_row x (filter p ys)) (filter p ys))
+        ≡ cond d (put_row x (cond c (y ∷ filter p ys) (filter p ys))) (cond c (y ∷ filter p ys) (filter p ys))
     later e true true = sym (cond-false (row_before x y) (x ∷ y ∷ filter p ys) (y ∷ put_row x (filter p ys)) e)
     later e true false = refl
     later e false d = refl
 
-    go : (b : Bool) → row_before x y ≡ b → filter p (put_row x ys) ≡ cond (p x) (put_row x (filter p ys)) (filter p ys) → filter p (cond b (x ∷ y ∷ ys) (y ∷ put_row x ys)) ≡ cond (p x) (put_row x (filter p (y ∷ ys))) (filter p (y ∷ ys))
+    go : (b : Bool) → row_before x y ≡ b → filter p (put_row x ys) ≡ cond (p x) (put_row x (filter p ys)) (filter p ys)
+        → filter p (cond b (x ∷ y ∷ ys) (y ∷ put_row x ys)) ≡ cond (p x) (put_row x (filter p (y ∷ ys))) (filter p (y ∷ ys))
     go true e ih = ap (λ rows. cond (p x) rows (filter p (y ∷ ys))) (sym (put_first x (filter p (y ∷ ys)) (before e)))
     go false e ih = ap (λ rows. cond (p y) (y ∷ rows) rows) ih ∙ later e (p y) (p x)
 
@@ -78,16 +80,3 @@ first_passing p (suc k) [] f = refl
 first_passing {A} p (suc k) (x ∷ xs) f =
     ap (take (suc k)) (cond-true (p x) (x ∷ filter p xs) (filter p xs) (f x (inl refl)))
     ∙ ap (λ (ys : List A). x ∷ ys) (first_passing p k xs (λ y h. f y (inr h)))
-
--- the order of two tests doesn't matter
-pub passing_both : {A : Type 0} (p q : A → Bool) (xs : List A) → filter p (filter q xs) ≡ filter q (filter p xs)
-passing_both p q [] = refl
-passing_both {A} p q (x ∷ xs) = go (p x) refl (q x) refl (passing_both p q xs)
-  where
-    go : (b : Bool) → p x ≡ b → (c : Bool) → q x ≡ c → filter p (filter q xs) ≡ filter q (filter p xs) → filter p (cond c (x ∷ filter q xs) (filter q xs)) ≡ filter q (cond b (x ∷ filter p xs) (filter p xs))
-    go true e true k ih =
-        cond-true (p x) (x ∷ filter p (filter q xs)) (filter p (filter q xs)) e ∙ ap (λ (ys : List A). x ∷ ys) ih
-        ∙ sym (cond-true (q x) (x ∷ filter q (filter p xs)) (filter q (filter p xs)) k)
-    go true e false k ih = ih ∙ sym (cond-false (q x) (x ∷ filter q (filter p xs)) (filter q (filter p xs)) k)
-    go false e true k ih = cond-false (p x) (x ∷ filter p (filter q xs)) (filter p (filter q xs)) e ∙ ih
-    go false e false k ih = ih

@@ -4,24 +4,26 @@ use Rattle.std.proofs.lemmas.Bool.{true≢false, cond-true, cond-false, false_fr
 use Rattle.std.specs.Prelude.{◌↔◌}
 use Rattle.std.specs.List.{filter, filter_map}
 use Rattle.mr_model.specs.Texts.{numbers_on}
-use Rattle.mr_model.specs.Writes.{Id, Write, id_of}
+use Rattle.mr_model.specs.Writes.{Id, Write, id_of, same_id}
 use Rattle.mr_model.specs.Replica.{Replica, count_of, is_dropped, IsReplica}
 use Rattle.mr_model.specs.Tables.{VectorRow, Tables, by_id, vector_row, log_row, booking_row, error_row, cancelled_row, cancel_row, tables_of}
 use Rattle.mr_model.specs.Dropped.{Has}
 use Rattle.mr_model.specs.Changes.{IdBefore, RiseById, AreInKeyOrder, HasRowsOfKnown, SameRows, HaveSameRows, AreSameTables}
-use Rattle.mr_model.proofs.Members.{has_filter, filter_has, has_filter_map, filter_map_has, has_map, map_has, sorted_same}
+use Rattle.mr_model.proofs.Members.{has_filter, filter_has, has_filter_map, filter_map_has, has_map, map_has, sorted_same, same_id-true}
 use Rattle.mr_model.proofs.RowsById.{has_flat, flat_has, has_numbers, has_by_id, by_id_has}
 use Rattle.mr_model.proofs.TablesTell.{vector_entry, in_row, counted_server}
 use Rattle.mr_model.proofs.ErrorsTell.{sorted_map}
 
 -- ---- rows of tables, and lists in key order by their members
 
-kept_rows : {R : Type 0} (r : Replica) (f : Write → R) (row : R) → IsReplica r → Has row (map f (filter (λ u. not (is_dropped r (id_of u))) (by_id r.known))) ↔ ((w : Write) × Has w r.known × (is_dropped r (id_of w) ≡ false) × (row ≡ f w))
+kept_rows : {R : Type 0} (r : Replica) (f : Write → R) (row : R) → IsReplica r
+    → Has row (map f (filter (λ u. not (is_dropped r (id_of u))) (by_id r.known))) ↔ ((w : Write) × Has w r.known × (is_dropped r (id_of w) ≡ false) × (row ≡ f w))
 kept_rows r f row h = (
   (λ a. let (w, b, e) = map_has f row (filter (λ u. not (is_dropped r (id_of u))) (by_id r.known)) a in
       let p = filter_has (λ u. not (is_dropped r (id_of u))) w (by_id r.known) b in
       (w, by_id_has r w p.0, not-true (is_dropped r (id_of w)) p.1, e)),
-  (λ (w, a, d, e). subst (λ x. Has x (map f (filter (λ u. not (is_dropped r (id_of u))) (by_id r.known)))) (sym e) (has_map f w (filter (λ u. not (is_dropped r (id_of u))) (by_id r.known)) (has_filter (λ u. not (is_dropped r (id_of u))) w (by_id r.known) (ap not d) (has_by_id r w h a)))),
+  (λ (w, a, d, e). subst (λ x. Has x (map f (filter (λ u. not (is_dropped r (id_of u))) (by_id r.known)))) (sym e)
+      (has_map f w (filter (λ u. not (is_dropped r (id_of u))) (by_id r.known)) (has_filter (λ u. not (is_dropped r (id_of u))) w (by_id r.known) (ap not d) (has_by_id r w h a)))),
 )
 
 told_rows : {R : Type 0} (r : Replica) (f : Write → Option R) (row : R) → IsReplica r → Has row (filter_map f (by_id r.known)) ↔ ((w : Write) × Has w r.known × (f w ≡ Some row))
@@ -47,7 +49,8 @@ vector_rows r row h = (there, back)
         let b = counted_server r row.server h p.0 in
         let top : row.server ≤ 99 = b.1 in
         has_flat (vector_row r) row row.server (numbers_on 1 99) (has_numbers row.server 1 99 b.0 (omega (arith, top)))
-        (subst (λ rows. Has row rows) (sym (cond-false (eqb (count_of r row.server) 0) [] (vector_entry r row.server ∷ []) (false_from_ne_true (eqb (count_of r row.server) 0) (λ z. p.0 (eqb-true (count_of r row.server) 0 z))))) (inl p.1))
+        (subst (λ rows. Has row rows) (sym (cond-false (eqb (count_of r row.server) 0) [] (vector_entry r row.server ∷ [])
+        (false_from_ne_true (eqb (count_of r row.server) 0) (λ z. p.0 (eqb-true (count_of r row.server) 0 z))))) (inl p.1))
 
 -- the rows of tables are those of the known writes
 pub rows_of_known : (r : Replica) → IsReplica r → HasRowsOfKnown r
@@ -61,9 +64,13 @@ rows_of_known r h =
       cancels = λ row. told_rows r (cancel_row r) row h;
     }
 
-id_irreflexive : (a : Id) → IdBefore a a → ⊥
+pub id_irreflexive : (a : Id) → IdBefore a a → ⊥
 id_irreflexive a (inl l) = omega (arith, l)
 id_irreflexive a (inr p) = omega (arith, p.1)
+
+-- an id before another is not it
+pub id_apart : (a b : Id) → IdBefore a b → same_id a b ≡ false
+id_apart a b before = false_from_ne_true (same_id a b) (λ e. id_irreflexive b (subst (λ i. IdBefore i b) (same_id-true a b e) before))
 
 id_trans : (a b c : Id) → IdBefore a b → IdBefore b c → IdBefore a c
 id_trans a b c (inl p) (inl q) = inl (omega (arith, p, q))

@@ -10,9 +10,11 @@ use Rattle.mr_model.specs.Writes.{Id, Meeting, Action, Books, Cancels, Write, id
 use Rattle.mr_model.specs.Replay.{Place, Taken, Logged, Done, Void, slot_at}
 use Rattle.mr_model.specs.Replica.{Replica, is_committed, IsReplica}
 use Rattle.mr_model.specs.Replies.{NotBooked, Cancelled, CancelDone, CancelVoid, Reply, OutcomeIs, Refused}
-use Rattle.mr_model.specs.View.{Placed, Told, view_of, cancels_it, whole_list, entry_with, entry_unless, entry_of, outcome_with, booking_outcome, cancel_outcome_at, outcome_for, outcome_of, told_of, outcome_reply}
+use Rattle.mr_model.specs.View.{Placed, Told, view_of, cancels_it, whole_list, entry_with, entry_unless, entry_of, outcome_with}
+use Rattle.mr_model.specs.View.{booking_outcome, cancel_outcome_at, outcome_for, outcome_of, told_of, outcome_reply}
 use Rattle.mr_model.specs.Step.{outcome_at}
-use Rattle.mr_model.specs.Tables.{BookingRow, ErrorRow, CancelledRow, CancelRow, PlaceRow, by_id, seq_of, booked_in, erred_in, taken_back, cancel_row_for, booking_place_row, place_row_for, place_row, as_booking, as_error, as_cancelled, as_cancel, tables_of}
+use Rattle.mr_model.specs.Tables.{BookingRow, ErrorRow, CancelledRow, CancelRow, PlaceRow, by_id, seq_of, booked_in, erred_in, taken_back, cancel_row_for}
+use Rattle.mr_model.specs.Tables.{booking_place_row, place_row_for, place_row, as_booking, as_error, as_cancelled, as_cancel, tables_of}
 use Rattle.mr_model.specs.Tables as rows
 use Rattle.mr_model.specs.Queries as told
 use Rattle.mr_model.specs.Queries.{booking_id, error_id, cancelled_id, cancel_id, is_marked, row_entry, booked_outcome, logged_outcome, cancelled_outcome, IsCancelOf, TellsOutcome, IsRowFor}
@@ -43,7 +45,8 @@ cancel_as r w t d =
 -- what became of a write that is told, and its row
 pub data Case (r : Replica) (t : Told) : Type 0 where
   stood : (m : Meeting) (s : Slot) → t.write.action ≡ Books m → slot_at t.write t.place ≡ Some s → t.cancelled_by ≡ None → place_row r t.write ≡ rows.Booked (booked_as r t.write m s) → Case r t
-  gone : (m : Meeting) (s : Slot) (c : Placed) → t.write.action ≡ Books m → slot_at t.write t.place ≡ Some s → t.cancelled_by ≡ Some c → place_row r t.write ≡ rows.Cancelled (cancelled_as r t.write m s c) → Case r t
+  gone : (m : Meeting) (s : Slot) (c : Placed) → t.write.action ≡ Books m → slot_at t.write t.place ≡ Some s
+      → t.cancelled_by ≡ Some c → place_row r t.write ≡ rows.Cancelled (cancelled_as r t.write m s c) → Case r t
   erred : (m : Meeting) → t.write.action ≡ Books m → t.place ≡ Logged → t.cancelled_by ≡ None → place_row r t.write ≡ rows.Erred (erred_as r t.write m) → Case r t
   done : (x : Id) → t.write.action ≡ Cancels x → t.place ≡ Done → place_row r t.write ≡ rows.Cancel (cancel_as r t.write x true) → Case r t
   void : (x : Id) → t.write.action ≡ Cancels x → t.place ≡ Void → place_row r t.write ≡ rows.Cancel (cancel_as r t.write x false) → Case r t
@@ -81,7 +84,8 @@ case_of r room t k = go k.went
 
 -- ---- rows in the tables
 
-pub of_known : {A : Type 0} (f : PlaceRow → Option A) (r : Replica) (x : A) → IsReplica r → (w : Write) → Has w r.known → f (place_row r w) ≡ Some x → Has x (filter_map (λ v. f (place_row r v)) (by_id r.known))
+pub of_known : {A : Type 0} (f : PlaceRow → Option A) (r : Replica) (x : A) → IsReplica r → (w : Write)
+    → Has w r.known → f (place_row r w) ≡ Some x → Has x (filter_map (λ v. f (place_row r v)) (by_id r.known))
 of_known f r x h w a e = has_filter_map (λ v. f (place_row r v)) w x (by_id r.known) e (has_by_id r w h a)
 
 pub known_of : {A : Type 0} (f : PlaceRow → Option A) (r : Replica) (x : A) → Has x (filter_map (λ v. f (place_row r v)) (by_id r.known)) → (w : Write) × Has w r.known × (f (place_row r w) ≡ Some x)
@@ -162,7 +166,8 @@ outcome_told r room t h a = go (case_of r room t k)
     seq-mark : is_committed r (told_id t) ≡ is_marked (seq_of r t.write)
     seq-mark = committed-seq r t.write
 
-    turn : (p : PlaceRow) → place_row r t.write ≡ p → (told_reply : Reply) → OutcomeIs (outcome_of t) ≡ told_reply → TellsOutcome (tables_of r) p told_reply → TellsOutcome (tables_of r) (place_row r t.write) (OutcomeIs (outcome_of t))
+    turn : (p : PlaceRow) → place_row r t.write ≡ p → (told_reply : Reply) → OutcomeIs (outcome_of t) ≡ told_reply
+        → TellsOutcome (tables_of r) p told_reply → TellsOutcome (tables_of r) (place_row r t.write) (OutcomeIs (outcome_of t))
     turn p e q f x = subst (λ z. TellsOutcome (tables_of r) z (OutcomeIs (outcome_of t))) (sym e) (subst (λ z. TellsOutcome (tables_of r) p z) (sym f) x)
 
     go : Case r t → TellsOutcome (tables_of r) (place_row r t.write) (OutcomeIs (outcome_of t))
@@ -207,21 +212,28 @@ outcome_is_row r w h a =
     let (t, g, e) = known_told r w h a in
     let k = told_of_room r w.room t h g in
     let found : told_of (id_of w) (whole_list (view_of r w.room)) ≡ Some t = ap (λ (v : Write). told_of (id_of v) (whole_list (view_of r v.room))) (sym e) ∙ k.is_told in
-    subst (λ x. TellsOutcome (tables_of r) (place_row r w) x) (sym (ap outcome_reply found)) (subst (λ v. TellsOutcome (tables_of r) (place_row r v) (OutcomeIs (outcome_of t))) e (outcome_told r w.room t h g))
+    subst (λ x. TellsOutcome (tables_of r) (place_row r w) x) (sym (ap outcome_reply found))
+    (subst (λ v. TellsOutcome (tables_of r) (place_row r v) (OutcomeIs (outcome_of t))) e (outcome_told r w.room t h g))
 
 -- ---- the row of a write
 
-row_of_action : (r : Replica) (t : Told) → Case r t → IsRowFor t.write.action (place_row r t.write) × (told.row_id (place_row r t.write) ≡ told_id t) × (told.row_room (place_row r t.write) ≡ t.write.room)
-row_of_action r t (stood m s f o c e) = (subst (λ p. IsRowFor t.write.action p) (sym e) (subst (λ a. IsRowFor a (rows.Booked (booked_as r t.write m s))) (sym f) tt), ap told.row_id e, ap told.row_room e)
-row_of_action r t (gone m s c f o b e) = (subst (λ p. IsRowFor t.write.action p) (sym e) (subst (λ a. IsRowFor a (rows.Cancelled (cancelled_as r t.write m s c))) (sym f) tt), ap told.row_id e, ap told.row_room e)
+row_of_action : (r : Replica) (t : Told) → Case r t
+    → IsRowFor t.write.action (place_row r t.write) × (told.row_id (place_row r t.write) ≡ told_id t) × (told.row_room (place_row r t.write) ≡ t.write.room)
+row_of_action r t (stood m s f o c e) =
+    (subst (λ p. IsRowFor t.write.action p) (sym e) (subst (λ a. IsRowFor a (rows.Booked (booked_as r t.write m s))) (sym f) tt), ap told.row_id e, ap told.row_room e)
+row_of_action r t (gone m s c f o b e) =
+    (subst (λ p. IsRowFor t.write.action p) (sym e) (subst (λ a. IsRowFor a (rows.Cancelled (cancelled_as r t.write m s c))) (sym f) tt), ap told.row_id e, ap told.row_room e)
 row_of_action r t (erred m f p c e) = (subst (λ p. IsRowFor t.write.action p) (sym e) (subst (λ a. IsRowFor a (rows.Erred (erred_as r t.write m))) (sym f) tt), ap told.row_id e, ap told.row_room e)
-row_of_action r t (done x f p e) = (subst (λ p. IsRowFor t.write.action p) (sym e) (subst (λ a. IsRowFor a (rows.Cancel (cancel_as r t.write x true))) (sym f) refl), ap told.row_id e, ap told.row_room e)
-row_of_action r t (void x f p e) = (subst (λ p. IsRowFor t.write.action p) (sym e) (subst (λ a. IsRowFor a (rows.Cancel (cancel_as r t.write x false))) (sym f) refl), ap told.row_id e, ap told.row_room e)
+row_of_action r t (done x f p e) =
+    (subst (λ p. IsRowFor t.write.action p) (sym e) (subst (λ a. IsRowFor a (rows.Cancel (cancel_as r t.write x true))) (sym f) refl), ap told.row_id e, ap told.row_room e)
+row_of_action r t (void x f p e) =
+    (subst (λ p. IsRowFor t.write.action p) (sym e) (subst (λ a. IsRowFor a (rows.Cancel (cancel_as r t.write x false))) (sym f) refl), ap told.row_id e, ap told.row_room e)
 
 pub one_row : (r : Replica) (w : Write) → IsReplica r → Has w r.known → IsRowFor w.action (place_row r w) × (told.row_id (place_row r w) ≡ id_of w) × (told.row_room (place_row r w) ≡ w.room)
 one_row r w h a =
     let (t, g, e) = known_told r w h a in
-    subst (λ v. IsRowFor v.action (place_row r v) × (told.row_id (place_row r v) ≡ id_of v) × (told.row_room (place_row r v) ≡ v.room)) e (row_of_action r t (case_of r w.room t (told_of_room r w.room t h g)))
+    subst (λ v. IsRowFor v.action (place_row r v) × (told.row_id (place_row r v) ≡ id_of v) × (told.row_room (place_row r v) ≡ v.room)) e
+    (row_of_action r t (case_of r w.room t (told_of_room r w.room t h g)))
 
 -- a row of the tables is that of a known write
 pub row_is_in : (r : Replica) (p : PlaceRow) → IsReplica r → (w : Write) → Has w r.known → place_row r w ≡ p → told.IsRowIn (tables_of r) p
@@ -261,7 +273,8 @@ row_in_is r (rows.Cancelled row) h = let (w, a, e) = known_of as_cancelled r row
 row_in_is r (rows.Cancel row) h = let (w, a, e) = known_of as_cancel r row h in (w, a, cancel_is row (place_row r w) e)
 
 -- an id with no row of the room is no request or cancel of it
-pub none_told : (r : Replica) (room : Text) (id : Id) → IsReplica r → ((p : PlaceRow) → told.IsRowIn (tables_of r) p → told.row_room p ≡ room → told.row_id p ≡ id → ⊥) → outcome_reply (told_of id (whole_list (view_of r room))) ≡ Refused NoSuchRequest
+pub none_told : (r : Replica) (room : Text) (id : Id) → IsReplica r → ((p : PlaceRow) → told.IsRowIn (tables_of r) p → told.row_room p ≡ room → told.row_id p ≡ id → ⊥)
+    → outcome_reply (told_of id (whole_list (view_of r room))) ≡ Refused NoSuchRequest
 none_told r room id h f =
     ap (λ ts. outcome_reply (told_of id ts)) (room-list r room)
     ∙ ap outcome_reply (find_none (λ t. same_id (told_id t) id) (room_list r room) none)
@@ -312,16 +325,20 @@ erred_tells r row reply (told.of_error x) = refl
 pub cancel_tells : (r : Replica) (row : CancelRow) (reply : Reply) → TellsOutcome (tables_of r) (rows.Cancel row) reply → reply ≡ OutcomeIs (told.cancel_outcome row)
 cancel_tells r row reply (told.of_cancel x) = refl
 
-pub cancelled_tells : (r : Replica) (row : CancelledRow) (reply : Reply) → TellsOutcome (tables_of r) (rows.Cancelled row) reply → (c : CancelRow) × IsCancelOf (tables_of r) row c × (reply ≡ OutcomeIs (cancelled_outcome row c))
+pub cancelled_tells : (r : Replica) (row : CancelledRow) (reply : Reply) → TellsOutcome (tables_of r) (rows.Cancelled row) reply
+    → (c : CancelRow) × IsCancelOf (tables_of r) row c × (reply ≡ OutcomeIs (cancelled_outcome row c))
 cancelled_tells r row reply (told.of_cancelled x c is) = (c, is, refl)
 
-pub booked_tell : (r : Replica) (room : Text) (row : BookingRow) → IsReplica r → Has row (tables_of r).booking → row.room ≡ room → outcome_reply (told_of (booking_id row) (whole_list (view_of r room))) ≡ OutcomeIs (booked_outcome row)
+pub booked_tell : (r : Replica) (room : Text) (row : BookingRow) → IsReplica r → Has row (tables_of r).booking
+    → row.room ≡ room → outcome_reply (told_of (booking_id row) (whole_list (view_of r room))) ≡ OutcomeIs (booked_outcome row)
 booked_tell r room row h g e = booked_tells r row _ (told_by_row r room (rows.Booked row) h g e)
 
-pub erred_tell : (r : Replica) (room : Text) (row : ErrorRow) → IsReplica r → Has row (tables_of r).errorlog → row.room ≡ room → outcome_reply (told_of (error_id row) (whole_list (view_of r room))) ≡ OutcomeIs (logged_outcome row)
+pub erred_tell : (r : Replica) (room : Text) (row : ErrorRow) → IsReplica r → Has row (tables_of r).errorlog
+    → row.room ≡ room → outcome_reply (told_of (error_id row) (whole_list (view_of r room))) ≡ OutcomeIs (logged_outcome row)
 erred_tell r room row h g e = erred_tells r row _ (told_by_row r room (rows.Erred row) h g e)
 
-pub cancel_tell : (r : Replica) (room : Text) (row : CancelRow) → IsReplica r → Has row (tables_of r).cancels → row.room ≡ room → outcome_reply (told_of (cancel_id row) (whole_list (view_of r room))) ≡ OutcomeIs (told.cancel_outcome row)
+pub cancel_tell : (r : Replica) (room : Text) (row : CancelRow) → IsReplica r → Has row (tables_of r).cancels → row.room ≡ room
+    → outcome_reply (told_of (cancel_id row) (whole_list (view_of r room))) ≡ OutcomeIs (told.cancel_outcome row)
 cancel_tell r room row h g e = cancel_tells r row _ (told_by_row r room (rows.Cancel row) h g e)
 
 -- one row of cancels has an id

@@ -118,7 +118,8 @@ never_done id bs (p ∷ ps) r f others =
     ∙ never_done id (booked_with bs p.write p.place) ps r.1 (free_with id bs p.write p.place f (others p (inl refl))) (λ q h. others q (inr h))
 
 -- what was taken back had been booked
-pub cancelled_booked : (bs : List Booking) (ps : List Placed) → IsRun bs ps → ((p : Placed) → Has p ps → Free (placed_id p) bs) → Distinct (map placed_id ps) → (t : Told) → Has t (tell ps) → (c : Placed) → t.cancelled_by ≡ Some c → (s : Slot) × (slot_at t.write t.place ≡ Some s)
+pub cancelled_booked : (bs : List Booking) (ps : List Placed) → IsRun bs ps → ((p : Placed) → Has p ps → Free (placed_id p) bs)
+    → Distinct (map placed_id ps) → (t : Told) → Has t (tell ps) → (c : Placed) → t.cancelled_by ≡ Some c → (s : Slot) × (slot_at t.write t.place ≡ Some s)
 cancelled_booked bs [] r fresh d t h c e = absurd h
 cancelled_booked bs (p ∷ ps) r fresh d t (inl same) c e =
     subst (λ (x : Told). (s : Slot) × (slot_at x.write x.place ≡ Some s)) (sym same) (go (slot_at p.write p.place) refl)
@@ -228,7 +229,8 @@ stand_with bs w (Taken k) e long s = go (slot_at w (Taken k)) refl (long (went b
     go (Some v) at (inl n) = added v at n
     go (Some v) at (inr none) = absurd (none_some v (sym none ∙ at))
 
-pub stand_all : (bs : List Booking) (ps : List Placed) → IsRun bs ps → ((p : Placed) → Has p ps → Went p.write p.place → 1 ≤ length_of p.write ⊎ (slot_at p.write p.place ≡ None)) → AreStanding bs → Sorted BeginApart (booked_by bs ps)
+pub stand_all : (bs : List Booking) (ps : List Placed) → IsRun bs ps
+    → ((p : Placed) → Has p ps → Went p.write p.place → 1 ≤ length_of p.write ⊎ (slot_at p.write p.place ≡ None)) → AreStanding bs → Sorted BeginApart (booked_by bs ps)
 stand_all bs [] r long s = s.apart
 stand_all bs (p ∷ ps) r long s =
     stand_all (booked_with bs p.write p.place) ps r.1 (λ q h. long q (inr h)) (stand_with bs p.write p.place r.0 (long p (inl refl)) s)

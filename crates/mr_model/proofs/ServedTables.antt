@@ -14,7 +14,8 @@ pub takes_nothing : (t : Tables) → TakesRun t [] [] t
 takes_nothing t = λ a h. (a, ended, h)
 
 -- a run of tables grows by a step at its end
-pub takes_run_grows : (before middle after : Tables) (cs : List Command) (rs : List Reply) (c : Command) (r : Reply) → TakesRun before cs rs middle → TakesStep middle c r after → TakesRun before (cs ++ c ∷ []) (rs ++ r ∷ []) after
+pub takes_run_grows : (before middle after : Tables) (cs : List Command) (rs : List Reply) (c : Command) (r : Reply)
+    → TakesRun before cs rs middle → TakesStep middle c r after → TakesRun before (cs ++ c ∷ []) (rs ++ r ∷ []) after
 takes_run_grows before middle after cs rs c r f g =
     λ a h. let (m, run, there) = f a h in
     let (b, step, then) = g m there in

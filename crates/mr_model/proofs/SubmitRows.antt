@@ -1,13 +1,16 @@
 -- The rows that a submission changes.
-use Rattle.std.proofs.Common.{◌≡◌, refl, sym, ap, ◌∙◌, subst, ℕ, suc, ◌+◌, ◌<◌, ◌≤◌, max, Bool, true, false, cond, ◌&&◌, eqb, ltb, List, [], ◌∷◌, length, ◌⊎◌, inl, inr, Option, Some, None, arith, IsTrue, eqb-true, eq-eqb, ltb-true, ne_eqb}
+use Rattle.std.proofs.Common.{◌≡◌, refl, sym, ap, ◌∙◌, subst, ℕ, suc, ◌+◌, ◌<◌, ◌≤◌, max, Bool, true, false, cond, ◌&&◌, eqb, ltb, List}
+use Rattle.std.proofs.Common.{[], ◌∷◌, length, ◌⊎◌, inl, inr, Option, Some, None, arith, IsTrue, eqb-true, eq-eqb, ltb-true, ne_eqb}
 use Rattle.std.proofs.lemmas.Bool.{true≢false, and_parts, or_cases, cond-true, cond-false, false_from_ne_true, cases_eq}
 use Rattle.std.proofs.lemmas.Slice.Eq.{bytes_eq-Decides}
 use Rattle.std.specs.List.{AllByRecursion, filter_map, list_any}
 use Rattle.std.specs.Str.{bytes_eq}
 use Rattle.mr_model.specs.Texts.{Text, numbers_on}
 use Rattle.mr_model.specs.Writes.{Id, Write, id_of}
-use Rattle.mr_model.specs.Replica.{Replica, count_of, clock_of, last_time, committed_count, is_committed, is_dropped, knows_room, with_write, with_room, text_before, AreInNameOrder, add_write, IsReplica}
-use Rattle.mr_model.specs.Tables.{VectorRow, LogRow, BookingRow, CancelledRow, PlaceRow, by_id, seq_of, taken_back, as_booked, as_booking, as_error, as_cancelled, as_cancel, vector_row, log_row_with, log_row, place_row, booking_row, error_row, cancelled_row, cancel_row, tables_of}
+use Rattle.mr_model.specs.Replica.{Replica, count_of, clock_of, last_time, committed_count, is_committed, is_dropped}
+use Rattle.mr_model.specs.Replica.{knows_room, with_write, with_room, text_before, AreInNameOrder, add_write, IsReplica}
+use Rattle.mr_model.specs.Tables.{VectorRow, LogRow, BookingRow, CancelledRow, PlaceRow, by_id, seq_of, taken_back, as_booked, as_booking, as_error, as_cancelled}
+use Rattle.mr_model.specs.Tables.{as_cancel, vector_row, log_row_with, log_row, place_row, booking_row, error_row, cancelled_row, cancel_row, tables_of}
 use Rattle.mr_model.specs.Tables as rows
 use Rattle.mr_model.specs.View.{canceller_of}
 use Rattle.mr_model.specs.Queries.{booking_id, row_id}
@@ -29,7 +32,8 @@ use Rattle.mr_model.proofs.UniqueReplay.{some_inj, none_some}
 -- ---- a submission
 
 -- rows of the known writes and of one more
-row_more : {R : Type 0} (r : Replica) (w : Write) (f g : Write → Option R) (row : R) → IsReplica r → IsReplica (add_write r w) → ((v : Write) → Has v r.known → f v ≡ g v) → Has row (filter_map f (by_id (with_write w r.known))) → (f w ≡ Some row) ⊎ Has row (filter_map g (by_id r.known))
+row_more : {R : Type 0} (r : Replica) (w : Write) (f g : Write → Option R) (row : R) → IsReplica r → IsReplica (add_write r w)
+    → ((v : Write) → Has v r.known → f v ≡ g v) → Has row (filter_map f (by_id (with_write w r.known))) → (f w ≡ Some row) ⊎ Has row (filter_map g (by_id r.known))
 row_more r w f g row h k same a =
     let (x, b, e) = filter_map_has f row (by_id (with_write w r.known)) a in
     go x e (with_write_has w x r.known (by_id_has (add_write r w) x b))
@@ -38,7 +42,8 @@ row_more r w f g row h k same a =
     go x e (inl s) = inl (ap f (sym s) ∙ e)
     go x e (inr i) = inr (has_filter_map g x row (by_id r.known) (sym (same x i) ∙ e) (has_by_id r x h i))
 
-more_row : {R : Type 0} (r : Replica) (w : Write) (f g : Write → Option R) (row : R) → IsReplica r → IsReplica (add_write r w) → ((v : Write) → Has v r.known → f v ≡ g v) → (f w ≡ Some row) ⊎ Has row (filter_map g (by_id r.known)) → Has row (filter_map f (by_id (with_write w r.known)))
+more_row : {R : Type 0} (r : Replica) (w : Write) (f g : Write → Option R) (row : R) → IsReplica r → IsReplica (add_write r w)
+    → ((v : Write) → Has v r.known → f v ≡ g v) → (f w ≡ Some row) ⊎ Has row (filter_map g (by_id r.known)) → Has row (filter_map f (by_id (with_write w r.known)))
 more_row r w f g row h k same (inl e) = has_filter_map f w row (by_id (with_write w r.known)) e (has_by_id (add_write r w) w k (has_with_write w w r.known (inl refl)))
 more_row r w f g row h k same (inr a) =
     let (x, b, e) = filter_map_has g row (by_id r.known) a in
@@ -74,7 +79,8 @@ same_rooms t (x ∷ xs) o e = go (text_before t x) refl (bytes_eq t x) refl (sam
     tail f (inl g) = absurd (true≢false (sym g ∙ f))
     tail f (inr g) = g
 
-    go : (b : Bool) → text_before t x ≡ b → (c : Bool) → bytes_eq t x ≡ c → (list_any (bytes_eq t) xs ≡ true → with_room t xs ≡ xs) → cond b (t ∷ x ∷ xs) (cond c (x ∷ xs) (x ∷ with_room t xs)) ≡ x ∷ xs
+    go : (b : Bool) → text_before t x ≡ b → (c : Bool) → bytes_eq t x ≡ c → (list_any (bytes_eq t) xs ≡ true → with_room t xs ≡ xs)
+        → cond b (t ∷ x ∷ xs) (cond c (x ∷ xs) (x ∷ with_room t xs)) ≡ x ∷ xs
     go true b c f ih = absurd (not_behind t (x ∷ xs) (all_behind b) e)
     go false b true f ih = refl
     go false b false f ih = ap (λ us. x ∷ us) (ih (tail f (or_cases (bytes_eq t x) (list_any (bytes_eq t) xs) e)))
@@ -149,10 +155,12 @@ submit_changes r w h n late known =
     in_new : {R : Type 0} (f : Write → Option R) (row : R) (x : Write) → (x ≡ w) ⊎ Has x r.known → f x ≡ Some row → Has row (filter_map f (by_id (with_write w r.known)))
     in_new f row x b e = has_filter_map f x row (by_id (with_write w r.known)) e (has_by_id (add_write r w) x k (has_with_write w x r.known b))
 
-    booking_to : (row : BookingRow) → Has row (tables_of (add_write r w)).booking → (booking_row (add_write r w) w ≡ Some row) ⊎ (Has row (tables_of r).booking × (takes_back r w (booking_id row) ≡ false))
+    booking_to : (row : BookingRow) → Has row (tables_of (add_write r w)).booking
+        → (booking_row (add_write r w) w ≡ Some row) ⊎ (Has row (tables_of r).booking × (takes_back r w (booking_id row) ≡ false))
     booking_to row a = let (x, b, e) = of_new (booking_row (add_write r w)) row a in go x b e
       where
-        old : (x : Write) → Has x r.known → as_booking (place_row (add_write r w) x) ≡ Some row → (t : Bool) → takes_back r w (id_of x) ≡ t → Has row (tables_of r).booking × (takes_back r w (booking_id row) ≡ false)
+        old : (x : Write) → Has x r.known → as_booking (place_row (add_write r w) x) ≡ Some row → (t : Bool)
+            → takes_back r w (id_of x) ≡ t → Has row (tables_of r).booking × (takes_back r w (booking_id row) ≡ false)
         old x c e false f =
             let is : as_booking (place_row r x) ≡ Some row = ap as_booking (sym (row_same r w h n late x c f)) ∙ e in (
               of_known as_booking r row h x c is,
@@ -160,11 +168,13 @@ submit_changes r w h n late known =
             )
         old x c e true f = let (b, g, i) = row_taken r w h n late x c f in absurd (none_some row (sym (ap as_booking i) ∙ e))
 
-        go : (x : Write) → (x ≡ w) ⊎ Has x r.known → as_booking (place_row (add_write r w) x) ≡ Some row → (booking_row (add_write r w) w ≡ Some row) ⊎ (Has row (tables_of r).booking × (takes_back r w (booking_id row) ≡ false))
+        go : (x : Write) → (x ≡ w) ⊎ Has x r.known → as_booking (place_row (add_write r w) x) ≡ Some row
+            → (booking_row (add_write r w) w ≡ Some row) ⊎ (Has row (tables_of r).booking × (takes_back r w (booking_id row) ≡ false))
         go x (inl s) e = inl (ap (booking_row (add_write r w)) (sym s) ∙ e)
         go x (inr c) e = inr (old x c e (takes_back r w (id_of x)) refl)
 
-    booking_from : (row : BookingRow) → (booking_row (add_write r w) w ≡ Some row) ⊎ (Has row (tables_of r).booking × (takes_back r w (booking_id row) ≡ false)) → Has row (tables_of (add_write r w)).booking
+    booking_from : (row : BookingRow) → (booking_row (add_write r w) w ≡ Some row) ⊎ (Has row (tables_of r).booking × (takes_back r w (booking_id row) ≡ false))
+        → Has row (tables_of (add_write r w)).booking
     booking_from row (inl e) = in_new (booking_row (add_write r w)) row w (inl refl) e
     booking_from row (inr p) =
         let (x, c, e) = known_of as_booking r row p.0 in
@@ -183,10 +193,12 @@ submit_changes r w h n late known =
             none_some x.by
             (sym (stands_itself r w h n late) ∙ sym (row-cancel (add_write r w) w (told_booking (as_booked x)) (sym (row-made (add_write r w) w) ∙ ap row_booking f)) ∙ ap row_by f)
 
-    cancelled_to : (row : CancelledRow) → Has row (tables_of (add_write r w)).cancelled → ((b : BookingRow) × Has b (tables_of r).booking × (takes_back r w (booking_id b) ≡ true) × (row ≡ taken_back (id_of w) b)) ⊎ Has row (tables_of r).cancelled
+    cancelled_to : (row : CancelledRow) → Has row (tables_of (add_write r w)).cancelled
+        → ((b : BookingRow) × Has b (tables_of r).booking × (takes_back r w (booking_id b) ≡ true) × (row ≡ taken_back (id_of w) b)) ⊎ Has row (tables_of r).cancelled
     cancelled_to row a = let (x, b, e) = of_new (cancelled_row (add_write r w)) row a in go x b e
       where
-        old : (x : Write) → Has x r.known → as_cancelled (place_row (add_write r w) x) ≡ Some row → (t : Bool) → takes_back r w (id_of x) ≡ t → ((b : BookingRow) × Has b (tables_of r).booking × (takes_back r w (booking_id b) ≡ true) × (row ≡ taken_back (id_of w) b)) ⊎ Has row (tables_of r).cancelled
+        old : (x : Write) → Has x r.known → as_cancelled (place_row (add_write r w) x) ≡ Some row → (t : Bool) → takes_back r w (id_of x) ≡ t
+            → ((b : BookingRow) × Has b (tables_of r).booking × (takes_back r w (booking_id b) ≡ true) × (row ≡ taken_back (id_of w) b)) ⊎ Has row (tables_of r).cancelled
         old x c e false f = inr (of_known as_cancelled r row h x c (ap as_cancelled (sym (row_same r w h n late x c f)) ∙ e))
         old x c e true f =
             let (b, g, i) = row_taken r w h n late x c f in
@@ -197,11 +209,13 @@ submit_changes r w h n late known =
               some_inj row (taken_back (id_of w) b) (sym e ∙ ap as_cancelled i),
             )
 
-        go : (x : Write) → (x ≡ w) ⊎ Has x r.known → as_cancelled (place_row (add_write r w) x) ≡ Some row → ((b : BookingRow) × Has b (tables_of r).booking × (takes_back r w (booking_id b) ≡ true) × (row ≡ taken_back (id_of w) b)) ⊎ Has row (tables_of r).cancelled
+        go : (x : Write) → (x ≡ w) ⊎ Has x r.known → as_cancelled (place_row (add_write r w) x) ≡ Some row
+            → ((b : BookingRow) × Has b (tables_of r).booking × (takes_back r w (booking_id b) ≡ true) × (row ≡ taken_back (id_of w) b)) ⊎ Has row (tables_of r).cancelled
         go x (inl s) e = absurd (not_own row (ap (cancelled_row (add_write r w)) (sym s) ∙ e))
         go x (inr c) e = old x c e (takes_back r w (id_of x)) refl
 
-    cancelled_from : (row : CancelledRow) → ((b : BookingRow) × Has b (tables_of r).booking × (takes_back r w (booking_id b) ≡ true) × (row ≡ taken_back (id_of w) b)) ⊎ Has row (tables_of r).cancelled → Has row (tables_of (add_write r w)).cancelled
+    cancelled_from : (row : CancelledRow) → ((b : BookingRow) × Has b (tables_of r).booking × (takes_back r w (booking_id b) ≡ true) × (row ≡ taken_back (id_of w) b))
+        ⊎ Has row (tables_of r).cancelled → Has row (tables_of (add_write r w)).cancelled
     cancelled_from row (inl (b, a, t, s)) =
         let (x, c, e) = known_of as_booking r b a in
         let is : place_row r x ≡ rows.Booked b = booked_is b (place_row r x) e in
@@ -220,14 +234,16 @@ submit_changes r w h n late known =
     same_log v a = ap (λ p. cond (is_dropped r (id_of v)) None (Some (log_row_with v p (seq_of r v)))) (place-submit r w v h n late a)
 
     log_to : (row : LogRow) → Has row (tables_of (add_write r w)).log → (row ≡ log_row (add_write r w) w) ⊎ Has row (tables_of r).log
-    log_to row a = go (row_more r w (kept_log (add_write r w)) (kept_log r) row h k same_log (subst (λ rows. Has row rows) (map_filter (λ v. is_dropped r (id_of v)) (log_row (add_write r w)) (by_id (with_write w r.known))) a))
+    log_to row a = go (row_more r w (kept_log (add_write r w)) (kept_log r) row h k same_log
+        (subst (λ rows. Has row rows) (map_filter (λ v. is_dropped r (id_of v)) (log_row (add_write r w)) (by_id (with_write w r.known))) a))
       where
         go : (kept_log (add_write r w) w ≡ Some row) ⊎ Has row (filter_map (kept_log r) (by_id r.known)) → (row ≡ log_row (add_write r w) w) ⊎ Has row (tables_of r).log
         go (inl e) = inl (sym (some_inj (log_row (add_write r w) w) row (sym (cond-false (is_dropped r (id_of w)) None (Some (log_row (add_write r w) w)) kept_new) ∙ e)))
         go (inr b) = inr (subst (λ rows. Has row rows) (sym (map_filter (λ v. is_dropped r (id_of v)) (log_row r) (by_id r.known))) b)
 
     log_from : (row : LogRow) → (row ≡ log_row (add_write r w) w) ⊎ Has row (tables_of r).log → Has row (tables_of (add_write r w)).log
-    log_from row s = subst (λ rows. Has row rows) (sym (map_filter (λ v. is_dropped r (id_of v)) (log_row (add_write r w)) (by_id (with_write w r.known)))) (more_row r w (kept_log (add_write r w)) (kept_log r) row h k same_log (go s))
+    log_from row s = subst (λ rows. Has row rows) (sym (map_filter (λ v. is_dropped r (id_of v)) (log_row (add_write r w)) (by_id (with_write w r.known))))
+        (more_row r w (kept_log (add_write r w)) (kept_log r) row h k same_log (go s))
       where
         go : (row ≡ log_row (add_write r w) w) ⊎ Has row (tables_of r).log → (kept_log (add_write r w) w ≡ Some row) ⊎ Has row (filter_map (kept_log r) (by_id r.known))
         go (inl e) = inl (cond-false (is_dropped r (id_of w)) None (Some (log_row (add_write r w) w)) kept_new ∙ ap Some (sym e))
@@ -235,19 +251,23 @@ submit_changes r w h n late known =
 
     count_own : count_of (add_write r w) w.stamp.server ≡ w.stamp.n
     count_own =
-        let e = count-with_write (λ v. eqb v.stamp.server w.stamp.server) w r.known ∙ cond-true (eqb w.stamp.server w.stamp.server) (suc (count_of r w.stamp.server)) (count_of r w.stamp.server) (eq-eqb w.stamp.server w.stamp.server refl) in
+        let e = count-with_write (λ v. eqb v.stamp.server w.stamp.server) w r.known
+        ∙ cond-true (eqb w.stamp.server w.stamp.server) (suc (count_of r w.stamp.server)) (count_of r w.stamp.server) (eq-eqb w.stamp.server w.stamp.server refl) in
         let m : w.stamp.n ≡ count_of r w.stamp.server + 1 = n.number in
         e ∙ omega (arith, m)
 
     last_own : last_time (add_write r w) w.stamp.server ≡ w.stamp.time
     last_own =
-        let e = greatest-with_write (λ v. eqb v.stamp.server w.stamp.server) w r.known ∙ cond-true (eqb w.stamp.server w.stamp.server) (max w.stamp.time (last_time r w.stamp.server)) (last_time r w.stamp.server) (eq-eqb w.stamp.server w.stamp.server refl) in
+        let e = greatest-with_write (λ v. eqb v.stamp.server w.stamp.server) w r.known
+        ∙ cond-true (eqb w.stamp.server w.stamp.server) (max w.stamp.time (last_time r w.stamp.server)) (last_time r w.stamp.server) (eq-eqb w.stamp.server w.stamp.server refl) in
         let l : last_time r w.stamp.server < w.stamp.time = n.late in
         e ∙ omega (arith, l)
 
     own_row : vector_row (add_write r w) w.stamp.server ≡ new_vector_row r w ∷ []
     own_row =
-        let some : eqb (count_of (add_write r w) w.stamp.server) 0 ≡ false = false_from_ne_true (eqb (count_of (add_write r w) w.stamp.server) 0) (λ e. let z : count_of (add_write r w) w.stamp.server ≡ 0 = eqb-true (count_of (add_write r w) w.stamp.server) 0 e in let m : w.stamp.n ≡ count_of r w.stamp.server + 1 = n.number in let c : count_of (add_write r w) w.stamp.server ≡ w.stamp.n = count_own in omega (arith, z, m, c)) in
+        let some : eqb (count_of (add_write r w) w.stamp.server) 0 ≡ false = false_from_ne_true (eqb (count_of (add_write r w) w.stamp.server) 0)
+        (λ e. let z : count_of (add_write r w) w.stamp.server ≡ 0 = eqb-true (count_of (add_write r w) w.stamp.server) 0 e in
+        let m : w.stamp.n ≡ count_of r w.stamp.server + 1 = n.number in let c : count_of (add_write r w) w.stamp.server ≡ w.stamp.n = count_own in omega (arith, z, m, c)) in
         cond-false (eqb (count_of (add_write r w) w.stamp.server) 0) [] (vector_entry (add_write r w) w.stamp.server ∷ []) some
         ∙ (λ i. record { server = w.stamp.server; count = count_own i; last_time = last_own i; committed = committed_count r w.stamp.server } ∷ [])
 
@@ -255,7 +275,8 @@ submit_changes r w h n late known =
     other_row s ne =
         let f : eqb w.stamp.server s ≡ false = ne_eqb w.stamp.server s (λ e. ne (sym e)) in
         let c : count_of (add_write r w) s ≡ count_of r s = count-with_write (λ v. eqb v.stamp.server s) w r.known ∙ cond-false (eqb w.stamp.server s) (suc (count_of r s)) (count_of r s) f in
-        let l : last_time (add_write r w) s ≡ last_time r s = greatest-with_write (λ v. eqb v.stamp.server s) w r.known ∙ cond-false (eqb w.stamp.server s) (max w.stamp.time (last_time r s)) (last_time r s) f in
+        let l : last_time (add_write r w) s ≡ last_time r s = greatest-with_write (λ v. eqb v.stamp.server s) w r.known
+        ∙ cond-false (eqb w.stamp.server s) (max w.stamp.time (last_time r s)) (last_time r s) f in
         λ i. cond (eqb (c i) 0) [] (record { server = s; count = c i; last_time = l i; committed = committed_count r s } ∷ [])
 
     row_server : (x : Replica) (s : ℕ) (row : VectorRow) → Has row (vector_row x s) → row.server ≡ s
@@ -270,7 +291,8 @@ submit_changes r w h n late known =
         single (inl e) = e
         single (inr g) = absurd g
 
-        go : (s : ℕ) → Has s (numbers_on 1 99) → Has row (vector_row (add_write r w) s) → (s ≡ w.stamp.server) ⊎ (s ≡ w.stamp.server → ⊥) → (row ≡ new_vector_row r w) ⊎ (Has row (tables_of r).vector × ¬ (row.server ≡ w.stamp.server))
+        go : (s : ℕ) → Has s (numbers_on 1 99) → Has row (vector_row (add_write r w) s) → (s ≡ w.stamp.server) ⊎ (s ≡ w.stamp.server → ⊥)
+            → (row ≡ new_vector_row r w) ⊎ (Has row (tables_of r).vector × ¬ (row.server ≡ w.stamp.server))
         go s b c (inl e) = inl (single (subst (λ rows. Has row rows) own_row (subst (λ t. Has row (vector_row (add_write r w) t)) e c)))
         go s b c (inr ne) = inr (has_flat (vector_row r) row s (numbers_on 1 99) b (subst (λ rows. Has row rows) (other_row s ne) c), λ e. ne (sym (row_server (add_write r w) s row c) ∙ e))
 

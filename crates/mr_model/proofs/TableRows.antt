@@ -46,9 +46,18 @@ tables_of_mixed =
       room = codes "oak" ∷ [];
       vector = record { server = 2; count = 2; last_time = 3; committed = 0 } ∷ record { server = 3; count = 1; last_time = 1; committed = 1 } ∷ [];
       log =
-          record { server = 2; n = 1; time = 2; room = codes "oak"; action = OfMeeting (record { length = 60; choices = codes "1995-12-18 14:00 1995-12-18 16:00"; title = codes "Alpha" }); place = Taken 1; seq = 0 }
+          record {
+            server = 2;
+            n = 1;
+            time = 2;
+            room = codes "oak";
+            action = OfMeeting (record { length = 60; choices = codes "1995-12-18 14:00 1995-12-18 16:00"; title = codes "Alpha" });
+            place = Taken 1;
+            seq = 0;
+          }
           ∷ record { server = 2; n = 2; time = 3; room = codes "oak"; action = OfMeeting (record { length = 30; choices = codes "1995-12-18 16:30"; title = codes "Beta" }); place = Logged; seq = 0 }
-          ∷ record { server = 3; n = 1; time = 1; room = codes "oak"; action = OfMeeting (record { length = 60; choices = codes "1995-12-18 13:30"; title = codes "Gamma" }); place = Taken 0; seq = 1 } ∷ [];
+          ∷ record { server = 3; n = 1; time = 1; room = codes "oak"; action = OfMeeting (record { length = 60; choices = codes "1995-12-18 13:30"; title = codes "Gamma" }); place = Taken 0; seq = 1 }
+          ∷ [];
       booking =
           record { room = codes "oak"; day = day; start = 960; stop = 1020; server = 2; n = 1; title = codes "Alpha"; committed = false }
           ∷ record { room = codes "oak"; day = day; start = 810; stop = 870; server = 3; n = 1; title = codes "Gamma"; committed = true } ∷ [];
@@ -67,8 +76,17 @@ mixed_rows_dropped :
     ≡ record tables_of_mixed {
       meta = record { server = 2; primary = 1; commits = 1; dropped = 1; clock = 3 };
       log =
-          record { server = 2; n = 1; time = 2; room = codes "oak"; action = OfMeeting (record { length = 60; choices = codes "1995-12-18 14:00 1995-12-18 16:00"; title = codes "Alpha" }); place = Taken 1; seq = 0 }
-          ∷ record { server = 2; n = 2; time = 3; room = codes "oak"; action = OfMeeting (record { length = 30; choices = codes "1995-12-18 16:30"; title = codes "Beta" }); place = Logged; seq = 0 } ∷ [];
+          record {
+            server = 2;
+            n = 1;
+            time = 2;
+            room = codes "oak";
+            action = OfMeeting (record { length = 60; choices = codes "1995-12-18 14:00 1995-12-18 16:00"; title = codes "Alpha" });
+            place = Taken 1;
+            seq = 0;
+          }
+          ∷ record { server = 2; n = 2; time = 3; room = codes "oak"; action = OfMeeting (record { length = 30; choices = codes "1995-12-18 16:30"; title = codes "Beta" }); place = Logged; seq = 0 } ∷
+          [];
     }
 unfolding digits
 mixed_rows_dropped = refl
@@ -120,7 +138,15 @@ cancelled_once_rows :
       vector = record { server = 1; count = 5; last_time = 5; committed = 1 } ∷ [];
       log =
           record { server = 1; n = 1; time = 1; room = codes "oak"; action = OfMeeting (record { length = 60; choices = codes "1995-12-18 09:00"; title = codes "Alpha" }); place = Taken 0; seq = 1 }
-          ∷ record { server = 1; n = 2; time = 2; room = codes "oak"; action = OfMeeting (record { length = 60; choices = codes "1995-12-18 09:00 1995-12-18 10:00"; title = codes "Beta" }); place = Taken 1; seq = 0 }
+          ∷ record {
+            server = 1;
+            n = 2;
+            time = 2;
+            room = codes "oak";
+            action = OfMeeting (record { length = 60; choices = codes "1995-12-18 09:00 1995-12-18 10:00"; title = codes "Beta" });
+            place = Taken 1;
+            seq = 0;
+          }
           ∷ record { server = 1; n = 3; time = 3; room = codes "oak"; action = OfCancel (record { server = 1; n = 1 }); place = Done; seq = 0 }
           ∷ record { server = 1; n = 4; time = 4; room = codes "oak"; action = OfMeeting (record { length = 60; choices = codes "1995-12-18 09:00"; title = codes "Gamma" }); place = Taken 0; seq = 0 }
           ∷ record { server = 1; n = 5; time = 5; room = codes "oak"; action = OfCancel (record { server = 1; n = 1 }); place = Void; seq = 0 } ∷ [];

@@ -1,5 +1,6 @@
 -- Equal tables: the replicas differ in dropped writes alone; and such replicas have equal tables.
-use Rattle.std.proofs.Common.{◌≡◌, refl, sym, ap, ◌∙◌, subst, ℕ, suc, ◌+◌, ◌≤◌, Bool, true, false, not, cond, eqb, List, [], ◌∷◌, length, map, take, drop, ◌⊎◌, inl, inr, Option, Some, None, arith, IsTrue, eqb-true}
+use Rattle.std.proofs.Common.{◌≡◌, refl, sym, ap, ◌∙◌, subst, ℕ, suc, ◌+◌, ◌≤◌, Bool, true, false, not, cond, eqb, List, []}
+use Rattle.std.proofs.Common.{◌∷◌, length, map, take, drop, ◌⊎◌, inl, inr, Option, Some, None, arith, IsTrue, eqb-true}
 use Rattle.std.proofs.lemmas.Bool.{cond-true, cond-false, false_from_ne_true, cases_eq}
 use Rattle.std.proofs.lemmas.List.{length-drop}
 use Rattle.std.specs.Prelude.{flat_map}
@@ -9,7 +10,8 @@ use Rattle.mr_model.specs.Slots.{Slot}
 use Rattle.mr_model.specs.Writes.{Id, Action, Books, Cancels, Write, id_of, stamp_before}
 use Rattle.mr_model.specs.Replay.{Place, slot_at}
 use Rattle.mr_model.specs.Replica.{Replica, writes_of, count_of, last_time, greatest, committed_count, is_committed, is_dropped, write_with, tentative, IsReplica}
-use Rattle.mr_model.specs.Tables.{VectorRow, LogRow, PlaceRow, Tables, by_id, seq_among, seq_of, vector_row, log_row, booking_place_row, place_row_for, place_row, as_booking, as_error, as_cancelled, as_cancel, tables_of}
+use Rattle.mr_model.specs.Tables.{VectorRow, LogRow, PlaceRow, Tables, by_id, seq_among, seq_of, vector_row, log_row, booking_place_row}
+use Rattle.mr_model.specs.Tables.{place_row_for, place_row, as_booking, as_error, as_cancelled, as_cancel, tables_of}
 use Rattle.mr_model.specs.Tables as rows
 use Rattle.mr_model.specs.View.{place_of, canceller_of}
 use Rattle.mr_model.specs.Queries.{booking_id, error_id, cancelled_id, cancel_id, row_id}
@@ -17,7 +19,8 @@ use Rattle.mr_model.specs.Dropped.{Has, DifferInDropped}
 use Rattle.mr_model.proofs.OrderedSets.{Before, before-true, before_from, before_trans}
 use Rattle.mr_model.proofs.Members.{has_filter, filter_has, slice_has, sorted_same, among_not, not_among, Distinct, distinct_parts, take_drop}
 use Rattle.mr_model.proofs.KnownById.{partner, known_with, with_id, commit_known, distinct_commits, tentative_known, tentative_sorted}
-use Rattle.mr_model.proofs.RowsById.{has_flat, flat_has, has_numbers, server_bounds, known_write, Paired, pairs_from_rows, map_filter, log_row_same, seq_not, seq_has, seq_at, at_seq, list_ext, slice_drop}
+use Rattle.mr_model.proofs.RowsById.{has_flat, flat_has, has_numbers, server_bounds, known_write, Paired, pairs_from_rows}
+use Rattle.mr_model.proofs.RowsById.{map_filter, log_row_same, seq_not, seq_has, seq_at, at_seq, list_ext, slice_drop}
 use Rattle.mr_model.proofs.UniqueReplay.{some_inj, none_some}
 use Rattle.mr_model.proofs.RowsTell.{booked_is, erred_is, cancelled_is, cancel_is}
 use Rattle.mr_model.proofs.DroppedApart.{dropped_commit, not_committed_kept}
@@ -53,8 +56,10 @@ same_entry : (a b : Replica) (s : ℕ) → IsReplica a → tables_of a ≡ table
 same_entry a b s ha e ne =
     let bounds = counted_server a s ha ne in
     let top : s ≤ 99 = bounds.1 in
-    let here : Has (vector_entry a s) (vector_row a s) = subst (λ (vs : List VectorRow). Has (vector_entry a s) vs) (sym (cond-false (eqb (count_of a s) 0) [] (vector_entry a s ∷ []) (false_from_ne_true (eqb (count_of a s) 0) (λ z. ne (eqb-true (count_of a s) 0 z))))) (inl refl) in
-    let there : Has (vector_entry a s) (flat_map (vector_row b) (numbers_on 1 99)) = subst (λ (t : Tables). Has (vector_entry a s) t.vector) e (has_flat (vector_row a) (vector_entry a s) s (numbers_on 1 99) (has_numbers s 1 99 bounds.0 (omega (arith, top))) here) in
+    let here : Has (vector_entry a s) (vector_row a s) = subst (λ (vs : List VectorRow). Has (vector_entry a s) vs)
+    (sym (cond-false (eqb (count_of a s) 0) [] (vector_entry a s ∷ []) (false_from_ne_true (eqb (count_of a s) 0) (λ z. ne (eqb-true (count_of a s) 0 z))))) (inl refl) in
+    let there : Has (vector_entry a s) (flat_map (vector_row b) (numbers_on 1 99)) = subst (λ (t : Tables). Has (vector_entry a s) t.vector) e
+    (has_flat (vector_row a) (vector_entry a s) s (numbers_on 1 99) (has_numbers s 1 99 bounds.0 (omega (arith, top))) here) in
     let (t, i, j) = flat_has (vector_row b) (vector_entry a s) (numbers_on 1 99) there in
     let row : vector_entry a s ≡ vector_entry b t = in_row b t (vector_entry a s) j in
     let same : s ≡ t = ap (λ (v : VectorRow). v.server) row in

@@ -1,5 +1,6 @@
 -- The rows that a truncation takes away.
-use Rattle.std.proofs.Common.{◌≡◌, refl, sym, ap, ◌∙◌, subst, ℕ, zero, suc, ◌+◌, ◌-◌, ◌<◌, ◌≤◌, max, Bool, true, false, not, cond, leb, List, [], ◌∷◌, take, inl, inr, Some, arith, le_refl, leb-true, le-leb, not-suc-le-zero, le_of_suc-le-suc}
+use Rattle.std.proofs.Common.{◌≡◌, refl, sym, ap, ◌∙◌, subst, ℕ, zero, suc, ◌+◌, ◌-◌, ◌<◌, ◌≤◌, max, Bool, true, false, not, cond, leb}
+use Rattle.std.proofs.Common.{List, [], ◌∷◌, take, inl, inr, Some, arith, le_refl, leb-true, le-leb, not-suc-le-zero, le_of_suc-le-suc}
 use Rattle.std.proofs.lemmas.Bool.{true≢false, and_parts, and_from, false_from_ne_true, not-true}
 use Rattle.std.specs.List.{filter, slice_get}
 use Rattle.mr_model.specs.Texts.{within}
@@ -97,4 +98,5 @@ truncate_changes r n h =
         let (v, b, e) = map_has (log_row r) row (filter (λ u. not (is_dropped r (id_of u))) (by_id r.known)) q.0 in
         let p = kept_from r v b in
         let gone : is_dropped (after_truncate r n) (id_of v) ≡ false = front-seq (max r.dropped n) r.commits (id_of v) ∙ ap (λ (x : LogRow). within 1 (max r.dropped n) x.seq) (sym e) ∙ q.1 in
-        subst (λ x. Has x (tables_of (after_truncate r n)).log) (sym e) (has_map (log_row (after_truncate r n)) v (filter (λ u. not (is_dropped (after_truncate r n) (id_of u))) (by_id r.known)) (to_kept (after_truncate r n) v p.0 gone))
+        subst (λ x. Has x (tables_of (after_truncate r n)).log) (sym e)
+        (has_map (log_row (after_truncate r n)) v (filter (λ u. not (is_dropped (after_truncate r n) (id_of u))) (by_id r.known)) (to_kept (after_truncate r n) v p.0 gone))

@@ -1,5 +1,6 @@
 -- One change made at two replicas that differ in dropped writes alone leaves two such replicas.
-use Rattle.std.proofs.Common.{◌≡◌, refl, sym, ap, ◌∙◌, subst, ℕ, zero, suc, ◌+◌, ◌-◌, ◌<◌, ◌≤◌, max, true, false, not, cond, ◌||◌, eqb, List, [], ◌∷◌, ◌++◌, length, take, drop, ◌⊎◌, inl, inr, Option, Some, None, arith, length-append, not-suc-le-zero, le_of_suc-le-suc}
+use Rattle.std.proofs.Common.{◌≡◌, refl, sym, ap, ◌∙◌, subst, ℕ, zero, suc, ◌+◌, ◌-◌, ◌<◌, ◌≤◌, max, true, false, not, cond, ◌||◌, eqb, List, [], ◌∷◌}
+use Rattle.std.proofs.Common.{◌++◌, length, take, drop, ◌⊎◌, inl, inr, Option, Some, None, arith, length-append, not-suc-le-zero, le_of_suc-le-suc}
 use Rattle.std.proofs.lemmas.Bool.{or_parts, cond-true}
 use Rattle.std.proofs.lemmas.List.Elements.{filter-append}
 use Rattle.std.specs.List.{filter, filter_map}
@@ -63,7 +64,8 @@ ids-else (Some c) None l e = absurd (let f : ◌≡◌ {A = Option Id} None (Som
 ids-else (Some c) (Some d) l e = e
 
 -- of twins both changed, with the same kept writes, the dropped ones with one id have one row
-twin_rows : (a b a' b' : Replica) → DroppedStay a a' → DroppedStay b b' → DifferInDropped a b → kept_in_order a' ≡ kept_in_order b' → (x y : Write) → Has x a.known → Has y b.known → id_of x ≡ id_of y → is_dropped a (id_of x) ≡ true → place_row a' x ≡ place_row b' y
+twin_rows : (a b a' b' : Replica) → DroppedStay a a' → DroppedStay b b' → DifferInDropped a b → kept_in_order a' ≡ kept_in_order b'
+    → (x y : Write) → Has x a.known → Has y b.known → id_of x ≡ id_of y → is_dropped a (id_of x) ≡ true → place_row a' x ≡ place_row b' y
 twin_rows a b a' b' s t d kept x y h g e f =
     row_stays a a' x s h f
     ∙ same_recancel (place_row a x) (place_row b y) (canceller_of a' x) (canceller_of b' y) p.row cancellers
@@ -96,7 +98,8 @@ twin_rows a b a' b' s t d kept x y h g e f =
 -- ---- a write more
 
 pub dropped-add_write : (r : Replica) (w : Write) → IsReplica r → IsNext r w → dropped_in_order (add_write r w) ≡ dropped_in_order r
-dropped-add_write r w h next = committed-with r w (take r.dropped r.commits) h next (λ id a. subst (λ is. Has id is) (take_drop r.dropped r.commits) (has_left id (take r.dropped r.commits) (drop r.dropped r.commits) a))
+dropped-add_write r w h next = committed-with r w (take r.dropped r.commits) h next
+    (λ id a. subst (λ is. Has id is) (take_drop r.dropped r.commits) (has_left id (take r.dropped r.commits) (drop r.dropped r.commits) a))
 
 pub next_over : (a b : Replica) (w : Write) → DifferInDropped a b → IsNext a w → IsNext b w
 next_over a b w d n =
@@ -115,7 +118,8 @@ twin_add_write a b w ha hb d next =
       dropped = d.dropped;
       rooms = ap (with_room w.room) d.rooms;
       clock = clock-with_write w a.known ∙ ap (max w.stamp.time) d.clock ∙ sym (clock-with_write w b.known);
-      counts = λ s. count-with_write (λ v. eqb v.stamp.server s) w a.known ∙ ap (λ n. cond (eqb w.stamp.server s) (suc n) n) (d.counts s) ∙ sym (count-with_write (λ v. eqb v.stamp.server s) w b.known);
+      counts = λ s. count-with_write (λ v. eqb v.stamp.server s) w a.known
+          ∙ ap (λ n. cond (eqb w.stamp.server s) (suc n) n) (d.counts s) ∙ sym (count-with_write (λ v. eqb v.stamp.server s) w b.known);
       last_times = last;
       committed_counts = d.committed_counts;
       kept_commits = d.kept_commits;
@@ -132,7 +136,8 @@ twin_add_write a b w ha hb d next =
     over x y e f = sym (d.dropped_ids (id_of y)) ∙ ap (is_dropped a) (sym e) ∙ f
 
     last : (s : ℕ) → last_time (add_write a w) s ≡ last_time (add_write b w) s
-    last s = greatest-with_write (λ v. eqb v.stamp.server s) w a.known ∙ ap (λ n. cond (eqb w.stamp.server s) (max w.stamp.time n) n) (d.last_times s) ∙ sym (greatest-with_write (λ v. eqb v.stamp.server s) w b.known)
+    last s = greatest-with_write (λ v. eqb v.stamp.server s) w a.known ∙ ap (λ n. cond (eqb w.stamp.server s) (max w.stamp.time n) n) (d.last_times s)
+        ∙ sym (greatest-with_write (λ v. eqb v.stamp.server s) w b.known)
 
     old : (r : Replica) → IsReplica r → IsNext r w → (x : Write) → Has x (with_write w r.known) → is_dropped r (id_of x) ≡ true → Has x r.known
     old r h n x g f = go (with_write_has w x r.known g)
@@ -193,7 +198,8 @@ seq_front k (x ∷ xs) ys id (inl e) =
     cond-true (same_id x id) k (seq_among (k + 1) (xs ++ ys) id) t ∙ sym (cond-true (same_id x id) k (seq_among (k + 1) xs id) t)
 seq_front k (x ∷ xs) ys id (inr h) = ap (λ n. cond (same_id x id) k n) (seq_front (k + 1) xs ys id h)
 
-pub twin_commits : (a b : Replica) (ids : List Id) → IsReplica a → IsReplica b → IsReplica (with_commits a ids) → IsReplica (with_commits b ids) → DifferInDropped a b → DifferInDropped (with_commits a ids) (with_commits b ids)
+pub twin_commits : (a b : Replica) (ids : List Id) → IsReplica a → IsReplica b → IsReplica (with_commits a ids)
+    → IsReplica (with_commits b ids) → DifferInDropped a b → DifferInDropped (with_commits a ids) (with_commits b ids)
 twin_commits a b ids ha hb ka kb d =
     record {
       server = d.server;

@@ -1,17 +1,21 @@
 -- Each step of two replicas that differ in dropped writes alone leaves two such replicas, and most replies are plainly the same.
-use Rattle.std.proofs.Common.{◌≡◌, refl, sym, ap, ◌∙◌, subst, ℕ, zero, suc, ◌+◌, ◌-◌, ◌≤◌, max, Bool, true, false, not, cond, ◌&&◌, eqb, ltb, List, [], ◌∷◌, ◌++◌, length, map, take, drop, inl, inr, Option, Some, None, Result, Ok, Err, arith, ltb-false}
+use Rattle.std.proofs.Common.{◌≡◌, refl, sym, ap, ◌∙◌, subst, ℕ, zero, suc, ◌+◌, ◌-◌, ◌≤◌, max, Bool, true, false, not, cond, ◌&&◌, eqb, ltb}
+use Rattle.std.proofs.Common.{List, [], ◌∷◌, ◌++◌, length, map, take, drop, inl, inr, Option, Some, None, Result, Ok, Err, arith, ltb-false}
 use Rattle.std.specs.Prelude.{flat_map, is_none}
 use Rattle.std.specs.List.{AllByRecursion, list_any, enumerate_from}
 use Rattle.std.specs.Str.{bytes_eq}
 use Rattle.mr_model.specs.Texts.{Text, only_if, numbers_on}
 use Rattle.mr_model.specs.Writes.{Id, Write, id_of, id_in, is_id_text, is_room_name, is_title, greatest_count, greatest_time, greatest_alternatives}
-use Rattle.mr_model.specs.Refusals.{Refusal, BadDay, BadTime, BadLength, BadRoomName, BadTitle, TooManyAlternatives, UnknownRoom, RoomThere, ClockExhausted, CountExhausted, NotPrimary, PrimaryKeepsAll, BeyondCommitted, NoSuchRequest, WrongPrimary, Truncated, NeedsVersion2, first_refusal}
+use Rattle.mr_model.specs.Refusals.{Refusal, BadDay, BadTime, BadLength, BadRoomName, BadTitle, TooManyAlternatives, UnknownRoom, RoomThere, ClockExhausted}
+use Rattle.mr_model.specs.Refusals.{CountExhausted, NotPrimary, PrimaryKeepsAll, BeyondCommitted, NoSuchRequest, WrongPrimary, Truncated, NeedsVersion2, first_refusal}
 use Rattle.mr_model.specs.Replica.{Replica, count_of, tentative, add_write, IsReplica}
 use Rattle.mr_model.specs.Exchange.{Second, Item, C, Header, Batch, read_batch}
 use Rattle.mr_model.specs.Positions.{Position, counts_of, position_of}
 use Rattle.mr_model.specs.Taking.{Progress, take_items}
 use Rattle.mr_model.specs.Replies.{Reply, Took, CommittedIs, DroppedIs, Refused}
-use Rattle.mr_model.specs.Step.{After, Submission, refuse, step_unless, add_room, submit_faults, write_of, outcome_at, after_write, submit, knows_booking, cancel_faults, cancel_write, cancel, after_items, receive_under, receive_read, receive, commit, truncate, item_if_lacked, commit_items, items_for, ending_of, batch_of, batch_unless, is_beyond, batch_reply, reply_to_position, leave, choice_words, is_bad_length}
+use Rattle.mr_model.specs.Step.{After, Submission, refuse, step_unless, add_room, submit_faults, write_of, outcome_at, after_write, submit, knows_booking, cancel_faults}
+use Rattle.mr_model.specs.Step.{cancel_write, cancel, after_items, receive_under, receive_read, receive, commit, truncate, item_if_lacked, commit_items, items_for}
+use Rattle.mr_model.specs.Step.{ending_of, batch_of, batch_unless, is_beyond, batch_reply, reply_to_position, leave, choice_words, is_bad_length}
 use Rattle.mr_model.specs.Dropped.{Has, DifferInDropped}
 use Rattle.mr_model.specs.Changes.{IsNext}
 use Rattle.mr_model.specs.Calendar.{read_date, read_time}
@@ -149,7 +153,8 @@ same_cancel_faults a b room id d k =
     ∷ (eqb (c i) greatest_time, ClockExhausted)
     ∷ (eqb (n i) greatest_count, CountExhausted) ∷ []
 
-pub twin_cancel : (a b : Replica) (room id : Text) → Twins a b → ((x y : Replica) (w : Write) → Twins x y → outcome_at x w ≡ outcome_at y w) → knows_booking a room (id_in id) ≡ knows_booking b room (id_in id) → TwinAfter (cancel a room id) (cancel b room id)
+pub twin_cancel : (a b : Replica) (room id : Text) → Twins a b → ((x y : Replica) (w : Write) → Twins x y → outcome_at x w ≡ outcome_at y w)
+    → knows_booking a room (id_in id) ≡ knows_booking b room (id_in id) → TwinAfter (cancel a room id) (cancel b room id)
 twin_cancel a b room id t same k =
     unless_twin a b _ _ _ _ t.alike (ap first_refusal (same_cancel_faults a b room id t.alike k))
     (λ none. subst (λ v. TwinAfter (after_write a (cancel_write a room id)) (after_write b v)) (same_cancel_write a b room id t.alike)
@@ -220,19 +225,24 @@ same_batch_reply a b p m t = go (ltb p.commits a.dropped) refl
     dropped = t.alike.dropped
 
     -- where too much is dropped the batch does not matter
-    cut : (c : Bool) (x y : Batch) → batch_unless (first_refusal ((c, WrongPrimary) ∷ (true, Truncated) ∷ (list_any (is_beyond p.version) x.items, NeedsVersion2) ∷ [])) x ≡ batch_unless (first_refusal ((c, WrongPrimary) ∷ (true, Truncated) ∷ (list_any (is_beyond p.version) y.items, NeedsVersion2) ∷ [])) y
+    cut : (c : Bool) (x y : Batch) → batch_unless (first_refusal ((c, WrongPrimary) ∷ (true, Truncated) ∷ (list_any (is_beyond p.version) x.items, NeedsVersion2) ∷ [])) x
+        ≡ batch_unless (first_refusal ((c, WrongPrimary) ∷ (true, Truncated) ∷ (list_any (is_beyond p.version) y.items, NeedsVersion2) ∷ [])) y
     cut true x y = refl
     cut false x y = refl
 
     go : (g : Bool) → ltb p.commits a.dropped ≡ g → batch_reply a p m ≡ batch_reply b p m
     go true e =
-        ap (λ g. batch_unless (first_refusal ((not (eqb p.primary a.primary), WrongPrimary) ∷ (g, Truncated) ∷ (list_any (is_beyond p.version) (batch_of a p m).items, NeedsVersion2) ∷ [])) (batch_of a p m)) e
+        ap (λ g. batch_unless (first_refusal ((not (eqb p.primary a.primary), WrongPrimary) ∷ (g, Truncated) ∷ (list_any (is_beyond p.version) (batch_of a p m).items, NeedsVersion2) ∷ []))
+        (batch_of a p m)) e
         ∙ cut (not (eqb p.primary a.primary)) (batch_of a p m) (batch_of b p m)
-        ∙ ap (λ g. batch_unless (first_refusal ((not (eqb p.primary a.primary), WrongPrimary) ∷ (g, Truncated) ∷ (list_any (is_beyond p.version) (batch_of b p m).items, NeedsVersion2) ∷ [])) (batch_of b p m)) (sym e)
-        ∙ (λ i. batch_unless (first_refusal ((not (eqb p.primary (primary i)), WrongPrimary) ∷ (ltb p.commits (dropped i), Truncated) ∷ (list_any (is_beyond p.version) (batch_of b p m).items, NeedsVersion2) ∷ [])) (batch_of b p m))
+        ∙ ap (λ g. batch_unless (first_refusal ((not (eqb p.primary a.primary), WrongPrimary) ∷ (g, Truncated) ∷ (list_any (is_beyond p.version) (batch_of b p m).items, NeedsVersion2) ∷ []))
+        (batch_of b p m)) (sym e)
+        ∙ (λ i. batch_unless (first_refusal ((not (eqb p.primary (primary i)), WrongPrimary) ∷ (ltb p.commits (dropped i), Truncated) ∷
+        (list_any (is_beyond p.version) (batch_of b p m).items, NeedsVersion2) ∷ [])) (batch_of b p m))
     go false e =
         let bs = same_batch a b p m t (ltb-false p.commits a.dropped e) in
-        λ i. batch_unless (first_refusal ((not (eqb p.primary (primary i)), WrongPrimary) ∷ (ltb p.commits (dropped i), Truncated) ∷ (list_any (is_beyond p.version) (bs i).items, NeedsVersion2) ∷ [])) (bs i)
+        λ i. batch_unless (first_refusal ((not (eqb p.primary (primary i)), WrongPrimary) ∷ (ltb p.commits (dropped i), Truncated) ∷ (list_any (is_beyond p.version) (bs i).items, NeedsVersion2) ∷ []))
+        (bs i)
 
 pub same_to_position : (a b : Replica) (o : Option Position) (m : ℕ) → Twins a b → reply_to_position a o m ≡ reply_to_position b o m
 same_to_position a b None m t = refl

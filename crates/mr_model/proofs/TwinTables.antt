@@ -20,13 +20,14 @@ use Rattle.mr_model.proofs.Members.{find_has, take_drop}
 use Rattle.mr_model.proofs.KnownById.{partner, with_known}
 use Rattle.mr_model.proofs.PlacedInOrder.{placed_among, placed_id, booked_by-among, told-stand}
 use Rattle.mr_model.proofs.PlacesOfOrder.{placed_here}
-use Rattle.mr_model.proofs.CalendarsShow.{has_flat, flat_has}
+use Rattle.mr_model.proofs.CalendarsShow.{has_flat}
 use Rattle.mr_model.proofs.RoomTold.{told_id, told_placed, placed_told}
 use Rattle.mr_model.proofs.Runs.{run-among}
 use Rattle.mr_model.proofs.Cancellers.{told_whole, or_else}
 use Rattle.mr_model.proofs.MembersAlike.{SameMembers, among_alike}
-use Rattle.mr_model.proofs.DroppedApart.{dropped_board, dropped_list, later_from, later_list, kept_id, dropped_placed, later_placed, dropped_here, dropped_distinct, place-later, place-dropped, canceller-parts, canceller-later}
-use Rattle.mr_model.proofs.RowsById.{Paired, rows_from_pairs, map_filter, seq_behind}
+use Rattle.mr_model.proofs.DroppedApart.{dropped_board, dropped_list, later_from, later_list, kept_id, dropped_placed, later_placed}
+use Rattle.mr_model.proofs.DroppedApart.{dropped_here, dropped_distinct, place-later, place-dropped, canceller-parts, canceller-later}
+use Rattle.mr_model.proofs.RowsById.{Paired, rows_from_pairs, map_filter, seq_behind, flat_has}
 use Rattle.mr_model.proofs.RowsTell.{one_row}
 use Rattle.mr_model.proofs.RowCancels.{row_booking, row_by, made, made_at, row-made, row-cancel}
 use Rattle.mr_model.proofs.TablesTell.{kept_log}
@@ -98,7 +99,8 @@ on_board r room b h a =
     made_of w (Some s) (inl e) = ap Some (sym e)
     made_of w (Some s) (inr x) = absurd x
 
-    go : (t : Told) → Has t (tell (dropped_list r room)) → Has t.write r.known × (t.write.room ≡ room) × (is_dropped r (told_id t) ≡ true) → (c : Option Placed) → t.cancelled_by ≡ c → Has b (booking_unless c t.write t.place) → OnBoard r room b
+    go : (t : Told) → Has t (tell (dropped_list r room)) → Has t.write r.known × (t.write.room ≡ room) × (is_dropped r (told_id t) ≡ true)
+        → (c : Option Placed) → t.cancelled_by ≡ c → Has b (booking_unless c t.write t.place) → OnBoard r room b
     go t g k (Some c) e i = absurd i
     go t g k None e i =
         record {
@@ -144,7 +146,8 @@ pair_cancel : (a b : Replica) (x y : Write) (m : Booking) → Pair a b x y → m
 pair_cancel a b x y m p e = sym (row-cancel a x m e) ∙ ap row_by p.row ∙ row-cancel b y m (sym (pair_made a b x y p) ∙ e)
 
 -- of bookings that were made the cancels among dropped writes are the same
-cancel_over : (a b : Replica) (x y : Write) (m : Booking) (c : Placed) → IsReplica a → IsReplica b → ((id : Id) → is_dropped a id ≡ is_dropped b id) → Pair a b x y → made a x ≡ Some m → dropped_cancel a x ≡ Some c
+cancel_over : (a b : Replica) (x y : Write) (m : Booking) (c : Placed) → IsReplica a → IsReplica b
+    → ((id : Id) → is_dropped a id ≡ is_dropped b id) → Pair a b x y → made a x ≡ Some m → dropped_cancel a x ≡ Some c
     → option_map placed_id (dropped_cancel b y) ≡ Some (placed_id c)
 cancel_over a b x y m c ha hb ids p e f = go (dropped_cancel b y) refl (cancel_of (id_of y) (later_list b y.room)) refl
   where
@@ -199,7 +202,8 @@ same_boards a b room ha hb d = λ m. (board_over a b room m ha hb d, board_over 
 
 -- ---- kept writes
 
-pub same_kept_from : (a b : Replica) → IsReplica a → drop a.dropped a.commits ≡ drop b.dropped b.commits → ((id : Id) → is_dropped a id ≡ false → write_with a id ≡ write_with b id) → tentative a ≡ tentative b → kept_in_order a ≡ kept_in_order b
+pub same_kept_from : (a b : Replica) → IsReplica a → drop a.dropped a.commits ≡ drop b.dropped b.commits
+    → ((id : Id) → is_dropped a id ≡ false → write_with a id ≡ write_with b id) → tentative a ≡ tentative b → kept_in_order a ≡ kept_in_order b
 same_kept_from a b ha commits writes tent =
     ap (λ ws. ws ++ tentative a)
     (filter_map_same (write_with a) (write_with b) (drop a.dropped a.commits) (λ id h. writes id (kept_id a id ha h)) ∙ ap (λ ids. filter_map (write_with b) ids) commits)

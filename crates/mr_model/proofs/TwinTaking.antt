@@ -1,5 +1,6 @@
 -- Two replicas that differ in dropped writes alone take items alike.
-use Rattle.std.proofs.Common.{◌≡◌, refl, sym, ap, ◌∙◌, subst, ℕ, ◌+◌, ◌-◌, ◌<◌, ◌≤◌, Bool, true, false, not, cond, ◌&&◌, eqb, leb, ltb, List, [], ◌∷◌, length, Result, Ok, Err, arith, IsTrue, leb-false, ltb-false, eqb-true}
+use Rattle.std.proofs.Common.{◌≡◌, refl, sym, ap, ◌∙◌, subst, ℕ, ◌+◌, ◌-◌, ◌<◌, ◌≤◌, Bool, true, false, not, cond, ◌&&◌, eqb, leb}
+use Rattle.std.proofs.Common.{ltb, List, [], ◌∷◌, length, Result, Ok, Err, arith, IsTrue, leb-false, ltb-false, eqb-true}
 use Rattle.std.proofs.lemmas.Bool.{true≢false}
 use Rattle.std.specs.List.{AllByRecursion, slice_get}
 use Rattle.mr_model.specs.Writes.{Id, Write, id_of, is_write}
@@ -35,7 +36,8 @@ TwinResult (Err e) (Ok q) = ⊥
 
 -- the cases of a write's line, by their tests
 abbrev pub write_cases : ℕ → Progress → Write → Bool → Bool → Bool → Bool → Bool → Bool → Result Progress Refusal
-write_cases line p w a b c d e f = cond (c && a) (Ok p) (cond (c && b) (Ok p) (cond c (Err (Forged line)) (cond d (Err (OwnWrite line)) (cond e (Err (Gap line)) (cond f (Err (OutOfOrder line)) (Ok (with_new_write p w)))))))
+write_cases line p w a b c d e f =
+    cond (c && a) (Ok p) (cond (c && b) (Ok p) (cond c (Err (Forged line)) (cond d (Err (OwnWrite line)) (cond e (Err (Gap line)) (cond f (Err (OutOfOrder line)) (Ok (with_new_write p w)))))))
 
 pub twin_write : (line : ℕ) (p q : Progress) (w : Write) → TwinProgress p q → IsTrue (is_write w) → TwinResult (take_write line p w) (take_write line q w)
 twin_write line p q w t ok =
@@ -53,7 +55,8 @@ twin_write line p q w t ok =
     d : DifferInDropped p.replica q.replica
     d = t.replicas.alike
 
-    tests : take_write line q w ≡ write_cases line q w (is_dropped a (id_of w)) (is_that_write (write_with b (id_of w)) w) (leb w.stamp.n (count_of a w.stamp.server)) (eqb w.stamp.server a.server) (ltb (count_of a w.stamp.server + 1) w.stamp.n) (leb w.stamp.time (last_time a w.stamp.server))
+    tests : take_write line q w ≡ write_cases line q w (is_dropped a (id_of w)) (is_that_write (write_with b (id_of w)) w) (leb w.stamp.n (count_of a w.stamp.server))
+        (eqb w.stamp.server a.server) (ltb (count_of a w.stamp.server + 1) w.stamp.n) (leb w.stamp.time (last_time a w.stamp.server))
     tests =
         let g = sym (d.dropped_ids (id_of w)) in
         let c = sym (d.counts w.stamp.server) in
@@ -77,7 +80,8 @@ twin_write line p q w t ok =
           commits = t.commits;
         }
 
-    go : (g : Bool) → is_dropped a (id_of w) ≡ g → (x y : Bool) → (is_dropped a (id_of w) ≡ false → x ≡ y) → (c : Bool) → leb w.stamp.n (count_of a w.stamp.server) ≡ c → (o e : Bool) → ltb (count_of a w.stamp.server + 1) w.stamp.n ≡ e → (f : Bool) → leb w.stamp.time (last_time a w.stamp.server) ≡ f
+    go : (g : Bool) → is_dropped a (id_of w) ≡ g → (x y : Bool) → (is_dropped a (id_of w) ≡ false → x ≡ y) → (c : Bool) → leb w.stamp.n (count_of a w.stamp.server) ≡ c
+        → (o e : Bool) → ltb (count_of a w.stamp.server + 1) w.stamp.n ≡ e → (f : Bool) → leb w.stamp.time (last_time a w.stamp.server) ≡ f
         → TwinResult (write_cases line p w g x c o e f) (write_cases line q w g y c o e f)
     go true eg x y xy true ec o e ee f ef = t
     go false eg true true xy true ec o e ee f ef = t
@@ -90,7 +94,8 @@ twin_write line p q w t ok =
     go g eg x y xy false ec false false ee false ef = new (next ec ee ef)
 
 abbrev pub commit_cases : ℕ → Progress → Id → Bool → Bool → Bool → Bool → Bool → Bool → Bool → Result Progress Refusal
-commit_cases line p id a b c d e f g = cond a (Ok p) (cond (c && b) (Ok p) (cond c (Err (Forged line)) (cond d (Err (PrimaryOnly line)) (cond e (Err (Gap line)) (cond f (Err (Gap line)) (cond (not g) (Err (OutOfOrder line)) (Ok (with_new_commit p id))))))))
+commit_cases line p id a b c d e f g = cond a (Ok p) (cond (c && b) (Ok p)
+    (cond c (Err (Forged line)) (cond d (Err (PrimaryOnly line)) (cond e (Err (Gap line)) (cond f (Err (Gap line)) (cond (not g) (Err (OutOfOrder line)) (Ok (with_new_commit p id))))))))
 
 -- a commit above the dropped ones is the same
 pub same_commit_at : (a b : Replica) (n : ℕ) → DifferInDropped a b → a.dropped < n → slice_get a.commits (n - 1) ≡ slice_get b.commits (n - 1)
@@ -116,7 +121,8 @@ twin_commit line p q n id t =
     d : DifferInDropped p.replica q.replica
     d = t.replicas.alike
 
-    tests : take_commit line q n id ≡ commit_cases line q id (leb n a.dropped) (is_that_id (slice_get b.commits (n - 1)) id) (leb n (length a.commits)) (eqb a.server a.primary) (ltb (length a.commits + 1) n) (ltb (count_of a id.server) id.n) (eqb id.n (committed_count a id.server + 1))
+    tests : take_commit line q n id ≡ commit_cases line q id (leb n a.dropped) (is_that_id (slice_get b.commits (n - 1)) id) (leb n (length a.commits))
+        (eqb a.server a.primary) (ltb (length a.commits + 1) n) (ltb (count_of a id.server) id.n) (eqb id.n (committed_count a id.server + 1))
     tests =
         let g = sym d.dropped in
         let l = sym d.commits in
@@ -137,7 +143,8 @@ twin_commit line p q n id t =
           commits = ap (λ k. k + 1) t.commits;
         }
 
-    go : (g : Bool) → leb n a.dropped ≡ g → (x y : Bool) → (leb n a.dropped ≡ false → x ≡ y) → (c s e f : Bool) → ltb (count_of a id.server) id.n ≡ f → (k : Bool) → eqb id.n (committed_count a id.server + 1) ≡ k
+    go : (g : Bool) → leb n a.dropped ≡ g → (x y : Bool) → (leb n a.dropped ≡ false → x ≡ y) → (c s e f : Bool)
+        → ltb (count_of a id.server) id.n ≡ f → (k : Bool) → eqb id.n (committed_count a id.server + 1) ≡ k
         → TwinResult (commit_cases line p id g x c s e f k) (commit_cases line q id g y c s e f k)
     go true eg x y xy c s e f ef k ek = t
     go false eg true true xy true s e f ef k ek = t

@@ -31,7 +31,8 @@ pub record AreInKeyOrder (t : Tables) : Type 0 where
 
 -- the rows of each table are those of the known writes, and of the servers that have some
 pub record HasRowsOfKnown (r : Replica) : Type 0 where
-  pub vector : (row : VectorRow) → Has row (tables_of r).vector ↔ (¬ (count_of r row.server ≡ 0) × (row ≡ record { server = row.server; count = count_of r row.server; last_time = last_time r row.server; committed = committed_count r row.server }))
+  pub vector : (row : VectorRow) → Has row (tables_of r).vector
+      ↔ (¬ (count_of r row.server ≡ 0) × (row ≡ record { server = row.server; count = count_of r row.server; last_time = last_time r row.server; committed = committed_count r row.server }))
   pub log : (row : LogRow) → Has row (tables_of r).log ↔ ((w : Write) × Has w r.known × (is_dropped r (id_of w) ≡ false) × (row ≡ log_row r w))
   pub booking : (row : BookingRow) → Has row (tables_of r).booking ↔ ((w : Write) × Has w r.known × (booking_row r w ≡ Some row))
   pub errorlog : (row : ErrorRow) → Has row (tables_of r).errorlog ↔ ((w : Write) × Has w r.known × (error_row r w ≡ Some row))
@@ -113,9 +114,11 @@ pub record SubmitChanges (r : Replica) (w : Write) : Type 0 where
   pub room : (tables_of (add_write r w)).room ≡ (tables_of r).room
   pub vector : (row : VectorRow) → Has row (tables_of (add_write r w)).vector ↔ ((row ≡ new_vector_row r w) ⊎ (Has row (tables_of r).vector × ¬ (row.server ≡ w.stamp.server)))
   pub log : (row : LogRow) → Has row (tables_of (add_write r w)).log ↔ ((row ≡ log_row (add_write r w) w) ⊎ Has row (tables_of r).log)
-  pub booking : (row : BookingRow) → Has row (tables_of (add_write r w)).booking ↔ ((booking_row (add_write r w) w ≡ Some row) ⊎ (Has row (tables_of r).booking × (takes_back r w (booking_id row) ≡ false)))
+  pub booking : (row : BookingRow) → Has row (tables_of (add_write r w)).booking
+      ↔ ((booking_row (add_write r w) w ≡ Some row) ⊎ (Has row (tables_of r).booking × (takes_back r w (booking_id row) ≡ false)))
   pub errorlog : (row : ErrorRow) → Has row (tables_of (add_write r w)).errorlog ↔ ((error_row (add_write r w) w ≡ Some row) ⊎ Has row (tables_of r).errorlog)
-  pub cancelled : (row : CancelledRow) → Has row (tables_of (add_write r w)).cancelled ↔ (((b : BookingRow) × Has b (tables_of r).booking × (takes_back r w (booking_id b) ≡ true) × (row ≡ taken_back (id_of w) b)) ⊎ Has row (tables_of r).cancelled)
+  pub cancelled : (row : CancelledRow) → Has row (tables_of (add_write r w)).cancelled
+      ↔ (((b : BookingRow) × Has b (tables_of r).booking × (takes_back r w (booking_id b) ≡ true) × (row ≡ taken_back (id_of w) b)) ⊎ Has row (tables_of r).cancelled)
   pub cancels : (row : CancelRow) → Has row (tables_of (add_write r w)).cancels ↔ ((cancel_row (add_write r w) w ≡ Some row) ⊎ Has row (tables_of r).cancels)
 
 -- ---- a commit

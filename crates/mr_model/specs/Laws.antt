@@ -1,5 +1,6 @@
 -- The laws of the definitions, as statements.
-use Rattle.std.specs.Prelude.{◌≡◌, ℕ, ◌+◌, ◌≤◌, ◌<◌, length, true, false, ◌↔◌, ◌⊎◌, List, [], ◌∷◌, ◌++◌, take, drop, map, filter, filter_map, flat_map, if◌then◌else◌, Option, Some, None, option_map, Ok, Err, IsTrue}
+use Rattle.std.specs.Prelude.{◌≡◌, ℕ, ◌+◌, ◌≤◌, ◌<◌, length, true, false, ◌↔◌, ◌⊎◌, List, [], ◌∷◌, ◌++◌, take, drop, map}
+use Rattle.std.specs.Prelude.{filter, filter_map, flat_map, if◌then◌else◌, Option, Some, None, option_map, Ok, Err, IsTrue}
 use Rattle.std.specs.List.{AllByRecursion}
 use Rattle.mr_model.specs.Texts.{Text, lines_text, whole_lines}
 use Rattle.mr_model.specs.Calendar.{Date, is_date, next_date, number_of_day}
@@ -11,14 +12,17 @@ use Rattle.mr_model.specs.Replica.{Replica, opening, count_of, committed_count, 
 use Rattle.mr_model.specs.Exchange.{Second, Batch, is_batch, batch_lines, batch_text, ReadsAs, IsFirstBadLine, read_batch, lines_within, front_of}
 use Rattle.mr_model.specs.Positions.{Position, position_of, is_position, position_text, read_position}
 use Rattle.mr_model.specs.Replies.{Entry, Reply, OutcomeIs, BatchIs, Refused}
-use Rattle.mr_model.specs.View.{View, Placed, Told, Question, of_room, view_of, placed_with, whole_places, committed_places, booked_told, whole_list, committed_list, place_of, entries, logging_of, told_of, outcome_reply, answer}
-use Rattle.mr_model.specs.Step.{Command, Ask, Submission, submit_faults, cancel_faults, next_stamp, write_of, outcome_at, cancel_write, step, IsStep, IsOfMachine, IsRun, BatchFor, batch_of, batch_reply}
+use Rattle.mr_model.specs.View.{View, Placed, Told, Question, of_room, view_of, placed_with, whole_places, committed_places, booked_told}
+use Rattle.mr_model.specs.View.{whole_list, committed_list, place_of, entries, logging_of, told_of, outcome_reply, answer}
+use Rattle.mr_model.specs.Step.{Command, Ask, Submission, submit_faults, cancel_faults, next_stamp, write_of, outcome_at}
+use Rattle.mr_model.specs.Step.{cancel_write, step, IsStep, IsOfMachine, IsRun, BatchFor, batch_of, batch_reply}
 use Rattle.mr_model.specs.Changes.{IsNext, WriteInserted, CommitMoved, SubmitChanges, after_commit, CommitChanges, TruncateChanges, AreInKeyOrder, HasRowsOfKnown, HaveSameRows, AreSameTables}
 use Rattle.mr_model.specs.Dropped.{Has, DifferInDropped}
 use Rattle.mr_model.specs.Tables.{Tables, BookingRow, ErrorRow, CancelledRow, CancelRow, PlaceRow, place_row, booking_row, error_row, cancel_row, tables_of, Stands}
 use Rattle.mr_model.specs.Serving.{TakesStep, TakesRun, Answered, Serves, Reaches}
 use Rattle.mr_model.specs.Kept.{KeptIsTheLog}
-use Rattle.mr_model.specs.Queries.{row_entry, booking_id, error_id, cancelled_id, cancel_id, booked_outcome, logged_outcome, cancelled_outcome, cancel_outcome, IsCancelOf, TellsOutcome, row_id, row_room, IsRowFor, IsRowIn, AreInStartOrder, AreBookingsOf, AreCommittedBookingsOf, LogLine, line_logging, AreInLogOrder, AreErrorsOf}
+use Rattle.mr_model.specs.Queries.{row_entry, booking_id, error_id, cancelled_id, cancel_id, booked_outcome, logged_outcome, cancelled_outcome, cancel_outcome, IsCancelOf, TellsOutcome}
+use Rattle.mr_model.specs.Queries.{row_id, row_room, IsRowFor, IsRowIn, AreInStartOrder, AreBookingsOf, AreCommittedBookingsOf, LogLine, line_logging, AreInLogOrder, AreErrorsOf}
 use Rattle.mr_model.specs.First.{FirstTables, StandsFirst, HavePlaces, moved}
 use Rattle.mr_model.specs.Board.{RoomBooking, after, bookings_in, place_on, booked_on, replay_on, board_replay, board_after, places_of_room}
 

@@ -1,5 +1,6 @@
 -- What a replica knows of one room, and the answers to questions about it.
-use Rattle.std.specs.Prelude.{◌+◌, Bool, true, false, not, ◌&&◌, ◌||◌, if◌then◌else◌, nat_lt, List, [], ◌∷◌, ◌++◌, length, drop, bytes_eq, Option, Some, None, option_map, is_none, filter, filter_map, find}
+use Rattle.std.specs.Prelude.{◌+◌, Bool, true, false, not, ◌&&◌, ◌||◌, if◌then◌else◌, nat_lt, List, [], ◌∷◌, ◌++◌, length}
+use Rattle.std.specs.Prelude.{drop, bytes_eq, Option, Some, None, option_map, is_none, filter, filter_map, find}
 use Rattle.mr_model.specs.Texts.{Text}
 use Rattle.mr_model.specs.Calendar.{Date, date_in, read_date, same_date, date_before}
 use Rattle.mr_model.specs.Slots.{Slot}
@@ -7,7 +8,8 @@ use Rattle.mr_model.specs.Writes.{Id, Action, Books, Cancels, Write, id_of, same
 use Rattle.mr_model.specs.Refusals.{Refusal, BadDay, BadRoomName, UnknownRoom, NoSuchRequest, first_refusal}
 use Rattle.mr_model.specs.Replay.{Place, Logged, Done, Void, Booking, replay, slot_at, booking_of}
 use Rattle.mr_model.specs.Replica.{Replica, committed, tentative, knows_room}
-use Rattle.mr_model.specs.Replies.{Entry, Logging, RequestLogged, CancelLogged, Outcome, Booked, NotBooked, Cancelled, CancelDone, CancelVoid, CalendarPart, Full, Committed, Reply, Calendar, Sheet, OutcomeIs, Errors, Refused}
+use Rattle.mr_model.specs.Replies.{Entry, Logging, RequestLogged, CancelLogged, Outcome, Booked, NotBooked, Cancelled, CancelDone}
+use Rattle.mr_model.specs.Replies.{CancelVoid, CalendarPart, Full, Committed, Reply, Calendar, Sheet, OutcomeIs, Errors, Refused}
 
 -- whether the room is known, its committed writes in commit order, and the set of its others, in stamp order
 pub record View : Type 0 where

@@ -12,7 +12,7 @@ use Rattle.mr_model.specs.Step.{Receive, step, items_for, batch_of, batch_unless
 use Rattle.mr_model.specs.World.{World, Deliver, StepReply, Said, Made, NoReplica, WorldAfter, replica_of, with_made, batch_numbered}
 use Rattle.mr_model.specs.Honest.{accepted, commit_list, IsHonestItem, IsHonestReplica, IsHonest}
 use Rattle.mr_model.specs.WorldLaws.{IsCountOrGap, IsComplete, HasAllOf}
-use Rattle.mr_convergence.specs.Convergence.{Reaches}
+use Rattle.mr_convergence.specs.Convergence.{KnowledgeReaches}
 use Rattle.mr_model.proofs.OrderedSets.{all_map}
 use Rattle.mr_model.proofs.Fronts.{front_trans, get_end}
 use Rattle.mr_model.proofs.BatchesReadBack.{read-text, reads_read, ok_inj}
@@ -213,6 +213,6 @@ module _ (start asked made later end : World) (from to number size : ℕ) (heard
       )
 
 -- knowledge is handed on so
-pub carried_hand_on : (old start asked made later end : World) (s from to number size writes commits : ℕ) → IsHonest start → Reaches old asked s from → (d : IsCarried start asked made later end from to number size (Some (Said (Took writes commits)))) → size ≤ d.bytes → IsComplete made number → Reaches old end s to
+pub carried_hand_on : (old start asked made later end : World) (s from to number size writes commits : ℕ) → IsHonest start → KnowledgeReaches old asked s from → (d : IsCarried start asked made later end from to number size (Some (Said (Took writes commits)))) → size ≤ d.bytes → IsComplete made number → KnowledgeReaches old end s to
 carried_hand_on old start asked made later end s from to number size writes commits h reach d whole complete =
     reaches_trans old asked end s from to reach (λ maker em. carried_brings start asked made later end from to number size (Some (Said (Took writes commits))) h d writes commits maker refl whole complete em)

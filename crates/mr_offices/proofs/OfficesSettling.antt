@@ -11,7 +11,7 @@ use Rattle.mr_model.specs.Step.{After, Commit, batch_of, batch_unless, batch_fau
 use Rattle.mr_model.specs.World.{World, Do, StepReply, Said, WorldAfter, replica_of, do_at, with_after, with_made}
 use Rattle.mr_model.specs.Honest.{accepted, commit_list, IsHonest, IsHonestReplica}
 use Rattle.mr_model.specs.WorldLaws.{HasAllOf}
-use Rattle.mr_convergence.specs.Convergence.{Reaches, EachReachesEach, KnowsAll, AreAlike, IsSettled}
+use Rattle.mr_convergence.specs.Convergence.{KnowledgeReaches, EachReachesEach, KnowsAll, AreAlike, HasAllCommitted}
 use Rattle.mr_model.proofs.Fronts.{front_compare, front_equal, front_length}
 use Rattle.mr_model.proofs.Orders.{with_commits, tentative-commit}
 use Rattle.mr_model.proofs.UniqueReplay.{some_inj}
@@ -72,13 +72,13 @@ quiet_run_same h (stepped {old = a} {middle = m} {new = b} {act = act} {heard = 
 
 -- ---- knowledge that reaches
 
-pub reached_stays : (before old new after : World) (acts acts_after : List Act) (heard heard_after : List (Option StepReply)) (s t : ℕ) → IsHonest before → IsOfficeRun before acts heard old → Reaches old new s t → IsHonest new → IsOfficeRun new acts_after heard_after after → Reaches before after s t
+pub reached_stays : (before old new after : World) (acts acts_after : List Act) (heard heard_after : List (Option StepReply)) (s t : ℕ) → IsHonest before → IsOfficeRun before acts heard old → KnowledgeReaches old new s t → IsHonest new → IsOfficeRun new acts_after heard_after after → KnowledgeReaches before after s t
 reached_stays before old new after acts acts_after heard heard_after s t h run reach hn run_after =
     reaches_trans before old after s s t (reaches_itself before old s h (office_run_kept h run))
     (reaches_trans old new after s t t reach (reaches_itself new after t hn (office_run_kept hn run_after)))
 
 -- whom all has reached knows all, where nothing was accepted or committed meanwhile
-knows_all : (old new : World) (t : ℕ) (r : Replica) → IsHonest old → Kept old new → Same old new → ((s : ℕ) → Reaches old new s t) → replica_of new t ≡ Some r → KnowsAll new r
+knows_all : (old new : World) (t : ℕ) (r : Replica) → IsHonest old → Kept old new → Same old new → ((s : ℕ) → KnowledgeReaches old new s t) → replica_of new t ≡ Some r → KnowsAll new r
 knows_all old new t r h kept same reach e =
     record {
       writes = knows_writes old new t r h kept.0 same.accepts reach e;
@@ -194,10 +194,10 @@ module _ (old one two new : World) (h : IsHonest old) (x : IsOfficeSettling old 
   none_left : (t : ℕ) (r : Replica) → replica_of new t ≡ Some r → tentative r ≡ []
   none_left t r e = let c = after.1 in same_tentative c.replica r (settled_alike c.primary t c.replica r c.is_there e) ∙ c.none_tentative
 
-  pub settles : (t : ℕ) (r : Replica) → replica_of new t ≡ Some r → IsSettled r × KnowsAll new r
+  pub settles : (t : ℕ) (r : Replica) → replica_of new t ≡ Some r → HasAllCommitted r × KnowsAll new r
   settles t r e = (settled_by r (none_left t r e), all_known t r e)
 
-  pub settled_stay : (later : World) (s : ℕ) (a b : Replica) → IsOfficeRunOf ActAcceptsNothing new later → replica_of new s ≡ Some a → replica_of later s ≡ Some b → IsSettled b × KnowsAll later b × AreAlike a b
+  pub settled_stay : (later : World) (s : ℕ) (a b : Replica) → IsOfficeRunOf ActAcceptsNothing new later → replica_of new s ≡ Some a → replica_of later s ≡ Some b → HasAllCommitted b × KnowsAll later b × AreAlike a b
   settled_stay later s a b c ea eb =
       let same = (committed_run honest_new after.1 c.run c.all_allowed).0 in
       let (all, like) = same_stays new later s a b honest_new (of_kept new later honest_new c) same ea eb (all_known s a ea) in

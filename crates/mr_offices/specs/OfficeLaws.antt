@@ -12,7 +12,7 @@ use Rattle.mr_model.specs.Step.{Commit}
 use Rattle.mr_model.specs.World.{World, Step, Do, Make, Deliver, StepReply, Made, Said, replica_of, batch_numbered}
 use Rattle.mr_model.specs.Honest.{IsFront, accepted, commit_list, IsHonest, IsWorldRun}
 use Rattle.mr_model.specs.WorldLaws.{IsKnownIn, IsCountOrGap, IsComplete, HasAllOf, TellsCommitted, IsAt}
-use Rattle.mr_convergence.specs.Convergence.{AcceptsNothing, IsQuiet, Reaches, IsThere, EachReachesEach, KnowsAll, AreAlike, IsSettled}
+use Rattle.mr_convergence.specs.Convergence.{AcceptsNothing, IsQuietStep, KnowledgeReaches, IsThere, EachReachesEach, KnowsAll, AreAlike, HasAllCommitted}
 use Rattle.mr_offices.specs.Offices.{Act, Within, Give, act_after, IsDone, IsNoReply, IsOfficeStep, IsOfficeRun, IsOfficeRunOf}
 
 -- ---- runs
@@ -158,7 +158,7 @@ PrimaryOfficeNeverTruncated =
 -- ---- (7): all come to rest
 
 abbrev pub IsQuietAct : Act → Type 0
-IsQuietAct (Within s) = IsQuiet s
+IsQuietAct (Within s) = IsQuietStep s
 IsQuietAct (Give from position m) = Unit {0}
 
 abbrev pub ActAcceptsNothing : Act → Type 0
@@ -169,14 +169,14 @@ ActAcceptsNothing (Give from position m) = Unit {0}
 abbrev pub ReachedStays : Type 0
 ReachedStays =
     (before old new after : World) (acts acts_after : List Act) (heard heard_after : List (Option StepReply)) (s t : ℕ)
-    → IsHonest before → IsOfficeRun before acts heard old → Reaches old new s t → IsHonest new → IsOfficeRun new acts_after heard_after after
-    → Reaches before after s t
+    → IsHonest before → IsOfficeRun before acts heard old → KnowledgeReaches old new s t → IsHonest new → IsOfficeRun new acts_after heard_after after
+    → KnowledgeReaches before after s t
 
 abbrev pub CarriedBatchesHandOn : Type 0
 CarriedBatchesHandOn =
     (old start asked made later end : World) (s from to number size writes commits : ℕ)
-    → IsHonest start → Reaches old asked s from → (d : IsCarried start asked made later end from to number size (Some (Said (Took writes commits))))
-    → size ≤ d.bytes → IsComplete made number → Reaches old end s to
+    → IsHonest start → KnowledgeReaches old asked s from → (d : IsCarried start asked made later end from to number size (Some (Said (Took writes commits))))
+    → size ≤ d.bytes → IsComplete made number → KnowledgeReaches old end s to
 
 abbrev pub OfficesConverge : Type 0
 OfficesConverge =
@@ -192,18 +192,18 @@ pub record IsOfficeSettling (old one two new : World) : Type 0 where
   pub before : Replica
   pub is_there : replica_of one primary ≡ Some before
   pub is_primary : before.server ≡ before.primary
-  pub all_reach_it : (s : ℕ) → Reaches old one s primary
+  pub all_reach_it : (s : ℕ) → KnowledgeReaches old one s primary
   pub count : ℕ
   pub committed : ℕ
   pub all_of_them : length (tentative before) ≤ count
   pub commit : IsDone one (Within (Do primary (Commit count))) (Said (CommittedIs committed)) two
   pub spread : IsOfficeRunOf ActAcceptsNothing two new
-  pub it_reaches_all : (t : ℕ) → IsThere new t → Reaches two new primary t
+  pub it_reaches_all : (t : ℕ) → IsThere new t → KnowledgeReaches two new primary t
 
 abbrev pub OfficesSettle : Type 0
 OfficesSettle =
     (old one two new : World) (t : ℕ) (r : Replica)
-    → IsHonest old → IsOfficeSettling old one two new → replica_of new t ≡ Some r → IsSettled r × KnowsAll new r
+    → IsHonest old → IsOfficeSettling old one two new → replica_of new t ≡ Some r → HasAllCommitted r × KnowsAll new r
 
 abbrev pub SettledOfficesAreAlike : Type 0
 SettledOfficesAreAlike =
@@ -214,4 +214,4 @@ abbrev pub SettledOfficesStay : Type 0
 SettledOfficesStay =
     (old one two new later : World) (s : ℕ) (a b : Replica)
     → IsHonest old → IsOfficeSettling old one two new → IsOfficeRunOf ActAcceptsNothing new later
-    → replica_of new s ≡ Some a → replica_of later s ≡ Some b → IsSettled b × KnowsAll later b × AreAlike a b
+    → replica_of new s ≡ Some a → replica_of later s ≡ Some b → HasAllCommitted b × KnowsAll later b × AreAlike a b

@@ -12,9 +12,10 @@ use Rattle.mr_base.proofs.Readers.{same_reading}
 use Rattle.mr_wire.specs.Fields.{◌>>=◌, number_off, behind_word}
 use Rattle.mr_wire.proofs.FieldLaws.{bind_some, number_off_takes, number_off_again}
 use Rattle.mr_wire.proofs.LineLaws.{behind_takes, behind_again}
-use Rattle.mr_wire.proofs.Ascii.{Low, is_text, number_low}
+use Rattle.mr_wire.proofs.Ascii.{is_text, number_low}
 use Rattle.mr_peer.specs.Took.{greatest_told, are_told, took_text, took_numbers, read_took}
 use Rattle.mr_peer.specs.TookWords.{last_word, took_on}
+use Rattle.mr_model.proofs.LowBytes.{Low}
 
 -- the text, with what stands behind each word in brackets
 abbrev in_words : ℕ × ℕ → Text

@@ -35,7 +35,8 @@ module _ (room : Text) (slot : Slot) (length : ℕ) where
   entry_meets : (e : Id × Row) → meets (bookings_of_entry room e) slot length ≡ is_in_the_way room slot length e.1
   entry_meets e = go (bytes_eq e.1.room room) (trace_meets e.0 e.1.trace)
     where
-      go : (c : Bool) → meets (booking_traced e.0 e.1.trace) slot length ≡ is_trace_in_the_way slot length e.1.trace → meets (cond c (booking_traced e.0 e.1.trace) []) slot length ≡ (is_trace_in_the_way slot length e.1.trace && c)
+      go : (c : Bool) → meets (booking_traced e.0 e.1.trace) slot length ≡ is_trace_in_the_way slot length e.1.trace
+          → meets (cond c (booking_traced e.0 e.1.trace) []) slot length ≡ (is_trace_in_the_way slot length e.1.trace && c)
       go true h = h ∙ both (is_trace_in_the_way slot length e.1.trace)
         where
           both : (b : Bool) → b ≡ (b && true)

@@ -31,7 +31,8 @@ same_rows b c h g same = same_entries id_cmp ids_total exact_ids b c (sorted_tes
 each-shown : (P : Id → Type 0) (hidden : BTreeSet Id) (b : Rows) → AllByRecursion P (keys_of b) → AllByRecursion P (keys_of (shown hidden b))
 each-shown P hidden [] h = tt
 each-shown P hidden (e ∷ es) h =
-    elim (not (is_hidden hidden e.0)) as (λ t. AllByRecursion P (keys_of (cond t (e ∷ shown hidden es) (shown hidden es)))) [ true ↦ (h.0, each-shown P hidden es h.1) | false ↦ each-shown P hidden es h.1 ]
+    elim (not (is_hidden hidden e.0)) as (λ t. AllByRecursion P
+    (keys_of (cond t (e ∷ shown hidden es) (shown hidden es)))) [ true ↦ (h.0, each-shown P hidden es h.1) | false ↦ each-shown P hidden es h.1 ]
 
 pub in_order-shown : (hidden : BTreeSet Id) (b : Rows) → IsInOrder b → IsInOrder (shown hidden b)
 unfolding IsStrictlySortedBy

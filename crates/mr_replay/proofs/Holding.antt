@@ -21,12 +21,15 @@ use Rattle.mr_replay.specs.declared.rows.Trace.{Trace}
 use Rattle.mr_replay.specs.declared.rows.Trace.TheVariants.{OfBooking, OfCancel}
 use Rattle.mr_replay.specs.declared.rows.Row.{Row}
 use Rattle.mr_replay.specs.Places.{UndoRow}
-use Rattle.mr_replay.specs.Rows.{Rows, row_at, trace_with, trace_for, row_of, with_mark, change, target_of, marked_by, with_row, place_by_rows, executed_at, executed, undo_row_at, undo_row_of, undone_by, undone, executed_all, undo_rows_of, undone_all}
-use Rattle.mr_replay.specs.Holds.{HaveDistinctIds, AreOfRoom, told_list, row_in, if_of, HoldsIn, HoldsEach, Holds, with_list, bears, IsNew, HaveNoRows, AreNew, undo_row_after, undo_rows_after, CanReplay}
+use Rattle.mr_replay.specs.Rows.{Rows, row_at, trace_with, trace_for, row_of, with_mark, change, target_of, marked_by, with_row, place_by_rows}
+use Rattle.mr_replay.specs.Rows.{executed_at, executed, undo_row_at, undo_row_of, undone_by, undone, executed_all, undo_rows_of, undone_all}
+use Rattle.mr_replay.specs.Holds.{HaveDistinctIds, AreOfRoom, told_list, row_in, if_of, HoldsIn, HoldsEach, Holds, with_list}
+use Rattle.mr_replay.specs.Holds.{bears, IsNew, HaveNoRows, AreNew, undo_row_after, undo_rows_after, CanReplay}
 use Rattle.mr_replay.proofs.IdKeys.{same_id_equivalence}
 use Rattle.mr_replay.proofs.Entries.{distinct_keys, undone-put}
 use Rattle.mr_replay.proofs.Marked.{change_if, nothing-changed, changed-back, values-put, values-changed}
-use Rattle.mr_replay.proofs.Lists.{one_name, same_name, other_name, distinct_front, distinct_next, distinct_back, distinct_without, among-part, distinct-part, part-own, part-all, with_list-own, with_list-twice, with_list-same, parts-push, parts-pop, of_room-front, of_room-back, of_room-append}
+use Rattle.mr_replay.proofs.Lists.{one_name, same_name, other_name, distinct_front, distinct_next, distinct_back, distinct_without, among-part, distinct-part, part-own}
+use Rattle.mr_replay.proofs.Lists.{part-all, with_list-own, with_list-twice, with_list-same, parts-push, parts-pop, of_room-front, of_room-back, of_room-append}
 use Rattle.mr_replay.proofs.ToldRows.{BearsNot, rows-none, rows-bear}
 use Rattle.mr_replay.proofs.PlacesOnBoard.{same_place}
 use Rattle.mr_replay.proofs.OneRoom.{whole_part, part-executed, in_order-executed, in_order-undone, HoldsIn-executed, other-executed, HoldsIn-undone, other-undone, absent}
@@ -37,14 +40,16 @@ Holds-empty = record { ordered = tt; rooms = λ room i. refl }
 
 -- ---- one write
 
-HoldsIn-with_list : (room : Text) (ws : List Write) (lists : Text → List Write) (b : Rows) → HoldsIn room ws b → ((other : Text) → bytes_eq other room ≡ false → HoldsIn other (lists other) b) → (other : Text) → HoldsIn other (with_list room ws lists other) b
+HoldsIn-with_list : (room : Text) (ws : List Write) (lists : Text → List Write) (b : Rows) → HoldsIn room ws b
+    → ((other : Text) → bytes_eq other room ≡ false → HoldsIn other (lists other) b) → (other : Text) → HoldsIn other (with_list room ws lists other) b
 HoldsIn-with_list room ws lists b own others other = go (bytes_eq other room) refl
   where
     go : (c : Bool) → bytes_eq other room ≡ c → HoldsIn other (cond c ws (lists other)) b
     go true e = subst (λ r. HoldsIn r ws b) (sym (one_name other room e)) own
     go false e = others other e
 
-pub HoldsEach-executed : (lists : Text → List Write) (room : Text) (b : Rows) (w : Write) → w.room ≡ room → HaveDistinctIds (lists room ++ w ∷ []) → row_at b (id_of w) ≡ None → HoldsEach lists b → HoldsEach (with_list room (lists room ++ w ∷ []) lists) (executed b w)
+pub HoldsEach-executed : (lists : Text → List Write) (room : Text) (b : Rows) (w : Write) → w.room ≡ room → HaveDistinctIds (lists room ++ w ∷ [])
+    → row_at b (id_of w) ≡ None → HoldsEach lists b → HoldsEach (with_list room (lists room ++ w ∷ []) lists) (executed b w)
 HoldsEach-executed lists room b w is distinct new holds = record {
   ordered = in_order-executed b w (place_by_rows b w) holds.ordered;
   rooms =
@@ -53,7 +58,8 @@ HoldsEach-executed lists room b w is distinct new holds = record {
       (λ other apart q. other-executed other b w (other_name w.room room other is apart) holds.ordered (ap (if_of other) new) q ∙ holds.rooms other q);
 }
 
-pub HoldsEach-undone : (lists : Text → List Write) (room : Text) (ws : List Write) (b : Rows) (w : Write) → lists room ≡ ws ++ w ∷ [] → HaveDistinctIds (ws ++ w ∷ []) → HoldsEach lists b → HoldsEach (with_list room ws lists) (undone b (undo_row_at w (place_among (after [] ws) w)))
+pub HoldsEach-undone : (lists : Text → List Write) (room : Text) (ws : List Write) (b : Rows) (w : Write) → lists room ≡ ws ++ w ∷ []
+    → HaveDistinctIds (ws ++ w ∷ []) → HoldsEach lists b → HoldsEach (with_list room ws lists) (undone b (undo_row_at w (place_among (after [] ws) w)))
 HoldsEach-undone lists room ws b w is distinct holds = record {
   ordered = in_order-undone (id_of w) (place_among (after [] ws) w) (target_of w.action) b holds.ordered;
   rooms =
@@ -112,7 +118,8 @@ executed_undone b w p new = go w.action p
     put_removed : (k : Trace) → undone_by (id_of w) Void None (with_row (id_of w) (Some (record { room = w.room; trace = k })) b) ≡ b
     put_removed k = undone-put b (id_of w) (record { room = w.room; trace = k }) new.no_row
 
-    go : (a : Action) (p : Place) → undone_by (id_of w) p (target_of a) (with_row (id_of w) (option_map (λ k. record { room = w.room; trace = k }) (trace_for w a p None)) (marked_by (id_of w) p (target_of a) b)) ≡ b
+    go : (a : Action) (p : Place)
+        → undone_by (id_of w) p (target_of a) (with_row (id_of w) (option_map (λ k. record { room = w.room; trace = k }) (trace_for w a p None)) (marked_by (id_of w) p (target_of a) b)) ≡ b
     go (Books m) (Taken k) = put_removed _
     go (Books m) Logged = put_removed _
     go (Books m) Done = put_removed _
@@ -162,8 +169,10 @@ AreNew-rest b w vs h = (h.0.1, go vs h.0.0 h.1.1)
     go : (us : List Write) → is_among (id_of w) (map id_of us) ≡ false → AllByRecursion (λ v. IsNew b (id_of v)) us → AllByRecursion (λ v. IsNew (executed b w) (id_of v)) us
     go [] other g = tt
     go (v ∷ us) other g =
-        let parts = or_parts (same_id (id_of w) (id_of v)) (is_among (id_of w) (map id_of us)) other in
-        (record { no_row = new_row b w (place_by_rows b w) (id_of v) parts.0 h.1.0.no_row g.0.no_row; no_mark = new_trace w w.action (place_by_rows b w) (id_of v) b parts.0 g.0.no_mark }, go us parts.1 g.1)
+        let parts = or_parts (same_id (id_of w) (id_of v)) (is_among (id_of w) (map id_of us)) other in (
+          record { no_row = new_row b w (place_by_rows b w) (id_of v) parts.0 h.1.0.no_row g.0.no_row; no_mark = new_trace w w.action (place_by_rows b w) (id_of v) b parts.0 g.0.no_mark },
+          go us parts.1 g.1,
+        )
 
 pub undo_reverse : (b : Rows) (ws : List Write) → AreNew b ws → undone_all (executed_all b ws) (undo_rows_of b ws) ≡ b
 undo_reverse b [] new = refl
@@ -195,8 +204,10 @@ new_after b w (v ∷ vs) own other h =
     let parts = or_parts (same_id (id_of w) (id_of v)) (is_among (id_of w) (map id_of vs)) other in
     (new_row b w (place_by_rows b w) (id_of v) parts.0 own h.0, new_after b w vs own parts.1 h.1)
 
-pub HoldsEach-executed_all : (room : Text) (again : List Write) (lists : Text → List Write) (b : Rows) → AreOfRoom room again → HaveDistinctIds (lists room ++ again) → HaveNoRows b again → HoldsEach lists b → HoldsEach (with_list room (lists room ++ again) lists) (executed_all b again)
-HoldsEach-executed_all room [] lists b of_room distinct new holds = subst (λ (ls : Text → List Write). HoldsEach ls b) (sym (with_list-same room (lists room ++ []) lists (sym (append-nil (lists room))))) holds
+pub HoldsEach-executed_all : (room : Text) (again : List Write) (lists : Text → List Write) (b : Rows) → AreOfRoom room again
+    → HaveDistinctIds (lists room ++ again) → HaveNoRows b again → HoldsEach lists b → HoldsEach (with_list room (lists room ++ again) lists) (executed_all b again)
+HoldsEach-executed_all room [] lists b of_room distinct new holds =
+    subst (λ (ls : Text → List Write). HoldsEach ls b) (sym (with_list-same room (lists room ++ []) lists (sym (append-nil (lists room))))) holds
 HoldsEach-executed_all room (w ∷ vs) lists b of_room distinct new holds =
     subst (λ (ls : Text → List Write). HoldsEach ls (executed_all (executed b w) vs)) same
     (HoldsEach-executed_all room vs pushed (executed b w) of_room.1 (subst (λ (l : List Write). HaveDistinctIds (l ++ vs)) (sym own) distinct_joined)
@@ -213,13 +224,15 @@ HoldsEach-executed_all room (w ∷ vs) lists b of_room distinct new holds =
     distinct_joined = subst (λ (l : List Write). HaveDistinctIds l) (sym (append_assoc (lists room) (w ∷ []) vs)) distinct
 
     same : with_list room (pushed room ++ vs) pushed ≡ with_list room (lists room ++ w ∷ vs) lists
-    same = ap (λ (l : List Write). with_list room (l ++ vs) pushed) own ∙ ap (λ (l : List Write). with_list room l pushed) (append_assoc (lists room) (w ∷ []) vs) ∙ with_list-twice room (lists room ++ w ∷ vs) (lists room ++ w ∷ []) lists
+    same = ap (λ (l : List Write). with_list room (l ++ vs) pushed) own ∙ ap (λ (l : List Write). with_list room l pushed) (append_assoc (lists room) (w ∷ []) vs)
+        ∙ with_list-twice room (lists room ++ w ∷ vs) (lists room ++ w ∷ []) lists
 
 -- the undo rows of writes of one room, behind others of the room, are those that all writes give them
 pub room_undo : (room : Text) (w : Write) (ws : List Write) → w.room ≡ room → AreOfRoom room ws → undo_row_after ws w ≡ undo_row_at w (place_among (after [] ws) w)
 room_undo room w ws is of = ap (λ l. undo_row_at w (place_among (after [] l) w)) (part-all room w.room ws is of)
 
-pub HoldsEach-undone_all : (room : Text) (tail front : List Write) (lists : Text → List Write) (b : Rows) → AreOfRoom room front → AreOfRoom room tail → lists room ≡ front ++ tail → HaveDistinctIds (front ++ tail) → HoldsEach lists b → HoldsEach (with_list room front lists) (undone_all b (undo_rows_after front tail))
+pub HoldsEach-undone_all : (room : Text) (tail front : List Write) (lists : Text → List Write) (b : Rows) → AreOfRoom room front → AreOfRoom room tail
+    → lists room ≡ front ++ tail → HaveDistinctIds (front ++ tail) → HoldsEach lists b → HoldsEach (with_list room front lists) (undone_all b (undo_rows_after front tail))
 HoldsEach-undone_all room [] front lists b of1 of2 is distinct holds = subst (λ (ls : Text → List Write). HoldsEach ls b) (sym (with_list-same room front lists (is ∙ append-nil front))) holds
 HoldsEach-undone_all room (w ∷ vs) front lists b of1 of2 is distinct holds =
     subst (λ (ls : Text → List Write). HoldsEach ls (undone rest (undo_row_after front w))) (with_list-twice room front (front ++ w ∷ []) lists)
@@ -237,7 +250,8 @@ HoldsEach-undone_all room (w ∷ vs) front lists b of1 of2 is distinct holds =
     distinct_joined = subst (λ (l : List Write). HaveDistinctIds l) (sym joined) distinct
 
 -- these undone and others executed in their place
-pub HoldsEach-replayed : (lists : Text → List Write) (room : Text) (front tail : List Write) (b : Rows) (us : List UndoRow) (again : List Write) → CanReplay lists room front tail b us again → HoldsEach (with_list room (front ++ again) lists) (executed_all (undone_all b us) again)
+pub HoldsEach-replayed : (lists : Text → List Write) (room : Text) (front tail : List Write) (b : Rows) (us : List UndoRow) (again : List Write)
+    → CanReplay lists room front tail b us again → HoldsEach (with_list room (front ++ again) lists) (executed_all (undone_all b us) again)
 HoldsEach-replayed lists room front tail b us again can =
     subst (λ (ls : Text → List Write). HoldsEach ls (executed_all (undone_all b us) again)) same
     (HoldsEach-executed_all room again (with_list room front lists) (undone_all b us) can.again_of_room
@@ -252,7 +266,8 @@ HoldsEach-replayed lists room front tail b us again can =
     same = ap (λ (l : List Write). with_list room (l ++ again) (with_list room front lists)) own ∙ with_list-twice room (front ++ again) front lists
 
 -- what other rooms have stays
-pub others-replayed : (lists : Text → List Write) (room : Text) (front tail : List Write) (b : Rows) (us : List UndoRow) (again : List Write) → CanReplay lists room front tail b us again → (other : Text) → bytes_eq other room ≡ false → (i : Id) → if_of other (row_at (executed_all (undone_all b us) again) i) ≡ if_of other (row_at b i)
+pub others-replayed : (lists : Text → List Write) (room : Text) (front tail : List Write) (b : Rows) (us : List UndoRow) (again : List Write) → CanReplay lists room front tail b us again
+    → (other : Text) → bytes_eq other room ≡ false → (i : Id) → if_of other (row_at (executed_all (undone_all b us) again) i) ≡ if_of other (row_at b i)
 others-replayed lists room front tail b us again can other apart i =
     (HoldsEach-replayed lists room front tail b us again can).rooms other i
     ∙ ap (λ (l : List Write). row_in (told_list l) i) (cond-false (bytes_eq other room) (front ++ again) (lists other) apart)

@@ -4,7 +4,7 @@ use Rattle.std.specs.BTreeMap.{is_at}
 use Rattle.std.specs.Cmp.{IsTotalOrder, IsEquivalence, nat_cmp_total, eq_by_cmp_equiv}
 use Rattle.std.specs.declared.cmp.Ordering.{Ordering}
 use Rattle.std.specs.declared.cmp.Ordering.TheVariants.{Less, Equal, Greater}
-use Rattle.std.specs.Ordering.{nat_cmp, is_eq}
+use Rattle.std.specs.Ordering.{nat_cmp, is_eq, is_lt}
 use Rattle.std.proofs.lemmas.Cmp.{on_total, then_total}
 use Rattle.std.proofs.lemmas.Map.Lookups.{CmpEqualImpliesEq, exact_pairs, exact_unsigned}
 use Rattle.mr_model.specs.Writes.{Id, same_id}
@@ -31,6 +31,11 @@ pub is_eq-Equal : (o : Ordering) → is_eq o ≡ true → o ≡ Equal
 is_eq-Equal Less e = let never : ⊥ = cc in absurd never
 is_eq-Equal Equal e = refl
 is_eq-Equal Greater e = let never : ⊥ = cc in absurd never
+
+pub is_lt-Less : (o : Ordering) → is_lt o ≡ true → o ≡ Less
+is_lt-Less Less e = refl
+is_lt-Less Equal e = let never : ⊥ = cc in absurd never
+is_lt-Less Greater e = let never : ⊥ = cc in absurd never
 
 pub at_one : (i j : Id) → at i j ≡ true → i ≡ j
 at_one i j e = exact_ids i j (is_eq-Equal (id_cmp i j) e)

@@ -56,7 +56,8 @@ ends_in_order slot room first last a b = (λ t. is_gt (key_cmp (a t) (b t))) ∙
 
 -- ---- what a look-up finds is in the part of the list that has its key
 
-any_in : (test inside : IndexKey → Bool) (key : IndexKey) (ks : List IndexKey) → list_any (is_at (key_cmp key)) ks ≡ true → inside key ≡ true → test key ≡ true → list_any test (filter inside ks) ≡ true
+any_in : (test inside : IndexKey → Bool) (key : IndexKey) (ks : List IndexKey) → list_any (is_at (key_cmp key)) ks ≡ true
+    → inside key ≡ true → test key ≡ true → list_any test (filter inside ks) ≡ true
 any_in test inside key [] found is holds = absurd (true≢false (sym found))
 any_in test inside key (k ∷ ks) found is holds = go (is_at (key_cmp key) k) refl found (λ f. any_in test inside key ks f is holds)
   where
@@ -97,7 +98,8 @@ module _ (room : Text) (slot : Slot) (length : ℕ) where
       go true own rest = own
       go false own rest = rest
 
-  none_there : (rows : Rows) (inside : IndexKey → Bool) (ks : List IndexKey) → list_any (is_in_the_way room slot length) (values_of rows) ≡ false → list_any (is_in_the_way_at room slot length rows) (filter inside ks) ≡ false
+  none_there : (rows : Rows) (inside : IndexKey → Bool) (ks : List IndexKey) → list_any (is_in_the_way room slot length) (values_of rows) ≡ false
+      → list_any (is_in_the_way_at room slot length rows) (filter inside ks) ≡ false
   none_there rows inside [] h = refl
   none_there rows inside (k ∷ ks) h = go (inside k) (none_there rows inside ks h)
     where
@@ -109,14 +111,16 @@ module _ (room : Text) (slot : Slot) (length : ℕ) where
       go false later = later
 
   -- a row in the way is a booking that stands and overlaps the slot, and has a key
-  way_key : (i : Id) (room_of : Text) (k : Trace) → is_trace_in_the_way slot length k ≡ true → (s : Slot) × (l : ℕ) × (key_traced i room_of k ≡ Some (key_of i room_of s l)) × (overlaps slot length s l ≡ true)
+  way_key : (i : Id) (room_of : Text) (k : Trace) → is_trace_in_the_way slot length k ≡ true
+      → (s : Slot) × (l : ℕ) × (key_traced i room_of k ≡ Some (key_of i room_of s l)) × (overlaps slot length s l ≡ true)
   way_key i room_of (OfBooking s l t Booked) h = (s, l, refl, h)
   way_key i room_of (OfBooking s l t (CancelledBy c)) h = absurd (true≢false (sym h))
   way_key i room_of (OfBooking s l t InErrorLog) h = absurd (true≢false (sym h))
   way_key i room_of (OfCancel t) h = absurd (true≢false (sym h))
 
   -- a row in the way is named
-  row_named : (rows : Rows) (index : BTreeSet IndexKey) (i : Id) (row : Row) → row_at rows i ≡ Some row → IsNoted index i row → is_in_the_way room slot length row ≡ true → list_any (is_in_the_way_at room slot length rows) (of_day slot room index) ≡ true
+  row_named : (rows : Rows) (index : BTreeSet IndexKey) (i : Id) (row : Row) → row_at rows i ≡ Some row → IsNoted index i row
+      → is_in_the_way room slot length row ≡ true → list_any (is_in_the_way_at room slot length rows) (of_day slot room index) ≡ true
   row_named rows index i row there noted way =
       let parts = and_parts (is_trace_in_the_way slot length row.trace) (bytes_eq row.room room) way in
       let (at, long, is, meets) = way_key i row.room row.trace parts.0 in
@@ -124,14 +128,17 @@ module _ (room : Text) (slot : Slot) (length : ℕ) where
       let day : at.day ≡ slot.day = overlap.3.same_day ∙ sym overlap.2.same_day in
       let key : key_of i row.room at long ≡ record { day = slot.day; room = padded room; edge = 1; id = i; slot = at; length = long } =
       λ t. record { day = day t; room = padded (one_name row.room room parts.1 t); edge = 1; id = i; slot = at; length = long } in
-      any_in (is_in_the_way_at room slot length rows) (range_contains key_cmp (Included (first_key slot room)) (Included (last_key slot room))) (key_of i row.room at long) index.keys (noted (key_of i row.room at long) is)
+      any_in (is_in_the_way_at room slot length rows) (range_contains key_cmp (Included (first_key slot room)) (Included (last_key slot room)))
+      (key_of i row.room at long) index.keys (noted (key_of i row.room at long) is)
       (ap (range_contains key_cmp (Included (first_key slot room)) (Included (last_key slot room))) key ∙ in_day slot room i at long)
       (and_from _ _ meets (ap (is_row (is_in_the_way room slot length)) there ∙ way))
 
-  pub taken : (rows : Rows) (index : BTreeSet IndexKey) → IsIndexed rows index → list_any (is_in_the_way_at room slot length rows) (of_day slot room index) ≡ list_any (is_in_the_way room slot length) (values_of rows)
+  pub taken : (rows : Rows) (index : BTreeSet IndexKey) → IsIndexed rows index
+      → list_any (is_in_the_way_at room slot length rows) (of_day slot room index) ≡ list_any (is_in_the_way room slot length) (values_of rows)
   taken rows index h =
       same_from_false _ _
-      (λ clear. list_any_none (is_in_the_way room slot length) (values_of rows) (All-values_from_lookup same_id_equivalence Clear rows (distinct_keys rows h.ordered) (λ q. at q clear (row_at rows q) refl)))
+      (λ clear. list_any_none (is_in_the_way room slot length) (values_of rows)
+      (All-values_from_lookup same_id_equivalence Clear rows (distinct_keys rows h.ordered) (λ q. at q clear (row_at rows q) refl)))
       (λ clear. none_there rows (range_contains key_cmp (Included (first_key slot room)) (Included (last_key slot room))) index.keys clear)
     where
       at : (q : Id) → list_any (is_in_the_way_at room slot length rows) (of_day slot room index) ≡ false → (o : Option Row) → row_at rows q ≡ o → IfSome o Clear
@@ -204,7 +211,8 @@ Forgets-stays old new key stays i row is h noted = λ k own. h k (λ _. is ∙ o
 pub IsNoted-same : (index : BTreeSet IndexKey) (i : Id) (r s : Row) → key_if_taken i s ≡ key_if_taken i r → IsNoted index i r → IsNoted index i s
 IsNoted-same index i r s same noted = λ key is. noted key (sym same ∙ is)
 
-IsIndexed-changed : (f : Trace → Trace) → ((i : Id) (row : Row) → key_if_taken i (change f row) ≡ key_if_taken i row) → (t : Id) (rows : Rows) (index : BTreeSet IndexKey) → IsIndexed rows index → IsIndexed (row_changed f t rows) index
+IsIndexed-changed : (f : Trace → Trace) → ((i : Id) (row : Row) → key_if_taken i (change f row) ≡ key_if_taken i row)
+    → (t : Id) (rows : Rows) (index : BTreeSet IndexKey) → IsIndexed rows index → IsIndexed (row_changed f t rows) index
 IsIndexed-changed f same t rows index h = record {
   ordered = in_order-changed f t rows h.ordered;
   bookings = λ q. subst (λ o. IfSome o (IsNoted index q)) (sym (row_at-changed f t rows q)) (at q (same_id q t) (row_at rows q) (h.bookings q));

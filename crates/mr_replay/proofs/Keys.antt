@@ -22,7 +22,7 @@ use Rattle.mr_replay.proofs.IdKeys.{exact_ids, is_eq-Equal}
 
 -- ---- keys that compare alike are one
 
-exact_days : CmpEqualImpliesEq day_cmp
+pub exact_days : CmpEqualImpliesEq day_cmp
 exact_days a b h =
     ap (λ (p : ℕ × (ℕ × ℕ)). record { year = p.0; month = (p.1).0; day = (p.1).1 })
     (exact_pairs nat_cmp _ exact_unsigned (exact_pairs nat_cmp nat_cmp exact_unsigned exact_unsigned) (a.year, (a.month, a.day)) (b.year, (b.month, b.day)) h)

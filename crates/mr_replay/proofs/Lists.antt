@@ -63,7 +63,8 @@ distinct_ids-without [] j js h = h.1
 distinct_ids-without (i ∷ is) j js h = (among_without i is j js h.0, distinct_ids-without is j js h.1)
 
 pub distinct_without : (ws : List Write) (v : Write) (vs : List Write) → HaveDistinctIds (ws ++ v ∷ vs) → HaveDistinctIds (ws ++ vs)
-distinct_without ws v vs h = subst (λ is. AreDistinct is) (sym (map-append id_of ws vs)) (distinct_ids-without (map id_of ws) (id_of v) (map id_of vs) (subst (λ is. AreDistinct is) (map-append id_of ws (v ∷ vs)) h))
+distinct_without ws v vs h =
+    subst (λ is. AreDistinct is) (sym (map-append id_of ws vs)) (distinct_ids-without (map id_of ws) (id_of v) (map id_of vs) (subst (λ is. AreDistinct is) (map-append id_of ws (v ∷ vs)) h))
 
 -- ---- the part of a room
 

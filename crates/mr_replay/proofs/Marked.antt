@@ -114,7 +114,8 @@ values-put P (e ∷ es) i row p h =
       | Greater ↦ (h.0, values-put P es i row p h.1)
     ]
 
-pub values-changed : (P : Row → Type 0) (f : Trace → Trace) (i : Id) (b : Rows) → ((row : Row) → P row → P (change f row)) → AllByRecursion P (values_of b) → AllByRecursion P (values_of (row_changed f i b))
+pub values-changed : (P : Row → Type 0) (f : Trace → Trace) (i : Id) (b : Rows) → ((row : Row) → P row → P (change f row))
+    → AllByRecursion P (values_of b) → AllByRecursion P (values_of (row_changed f i b))
 values-changed P f i [] keeps h = tt
 values-changed P f i (e ∷ es) keeps h =
     elim (same_id i e.0) as (λ t. AllByRecursion P (values_of (cond t ((e.0, change f e.1) ∷ es) (e ∷ row_changed f i es)))) [

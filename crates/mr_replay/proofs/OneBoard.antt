@@ -19,14 +19,14 @@ below : (k : Id) (es : Rows) → AllByRecursion (λ y. id_cmp k y ≡ Less) (key
 below k [] h = tt
 below k (e ∷ es) h = subst (λ o. T (is_lt o && below_all id_cmp k es)) (sym h.0) (below k es h.1)
 
-both : (a b : Bool) → T a → T b → T (a && b)
-both true b p q = q
-both false b p q = absurd p
+pub both_hold : (a b : Bool) → T a → T b → T (a && b)
+both_hold true b p q = q
+both_hold false b p q = absurd p
 
 pub sorted_test : (es : Rows) → IsInOrder es → T (is_sorted id_cmp es)
 unfolding IsStrictlySortedBy
 sorted_test [] h = tt
-sorted_test (e ∷ es) h = both (below_all id_cmp e.0 es) (is_sorted id_cmp es) (below e.0 es h.0) (sorted_test es h.1)
+sorted_test (e ∷ es) h = both_hold (below_all id_cmp e.0 es) (is_sorted id_cmp es) (below e.0 es h.0) (sorted_test es h.1)
 
 find-at : (es : Rows) (q : Id) → find id_cmp q es ≡ lookup (at q) es
 find-at [] q = refl

@@ -16,7 +16,8 @@ use Rattle.mr_replay.specs.declared.rows.Standing.TheVariants.{Booked, Cancelled
 use Rattle.mr_replay.specs.declared.rows.Trace.{Trace}
 use Rattle.mr_replay.specs.declared.rows.Trace.TheVariants.{OfBooking, OfCancel}
 use Rattle.mr_replay.specs.declared.rows.Row.{Row}
-use Rattle.mr_replay.specs.Rows.{Rows, row_at, bookings_of, trace_with, trace_for, row_of, place_by_rows, with_mark, without_mark, change, target_of, marked_by, with_row, executed_at, executed, undo_row_at, undone_by, undone}
+use Rattle.mr_replay.specs.Rows.{Rows, row_at, bookings_of, trace_with, trace_for, row_of, place_by_rows, with_mark, without_mark}
+use Rattle.mr_replay.specs.Rows.{change, target_of, marked_by, with_row, executed_at, executed, undo_row_at, undone_by, undone}
 use Rattle.mr_replay.specs.Holds.{HaveDistinctIds, told_list, row_in, bears, if_of, HoldsIn}
 use Rattle.mr_replay.specs.Bookings.{is_taken, if_taken}
 use Rattle.mr_replay.proofs.Entries.{IsInOrder, row_at-put, row_at-removed, in_order-removed}
@@ -145,7 +146,8 @@ abbrev pub takes_away : Action → Place → Bool
 takes_away (Cancels t) Done = false
 takes_away _ _ = true
 
-open_undone : (i : Id) (a : Action) (p : Place) (b : Rows) (q : Id) → IsInOrder b → row_at (undone_by i p (target_of a) b) q ≡ cond (takes_away a p) (cond (same_id q i) None (row_at b q)) (change_if (without_mark i) (cancels_it q a p) (row_at b q))
+open_undone : (i : Id) (a : Action) (p : Place) (b : Rows) (q : Id) → IsInOrder b
+    → row_at (undone_by i p (target_of a) b) q ≡ cond (takes_away a p) (cond (same_id q i) None (row_at b q)) (change_if (without_mark i) (cancels_it q a p) (row_at b q))
 open_undone i (Books m) (Taken k) b q h = row_at-removed b i q h
 open_undone i (Books m) Logged b q h = row_at-removed b i q h
 open_undone i (Books m) Done b q h = row_at-removed b i q h
@@ -215,18 +217,22 @@ bears_not-taken c (Some row) h = go (is_taken row.trace)
 
 -- what the list gives an id, with one write more, in a part of it
 part-push : (given : Option Row → Option Row) → IsPart given → (ws : List Write) (w : Write) (q : Id) → is_among (id_of w) (map id_of ws) ≡ false
-    → given (row_in (told_list (ws ++ w ∷ [])) q) ≡ cond (same_id q (id_of w)) (given (row_of w (place_among (after [] ws) w) None)) (change_if (with_mark (id_of w)) (cancels_it q w.action (place_among (after [] ws) w)) (given (row_in (told_list ws) q)))
+    → given (row_in (told_list (ws ++ w ∷ [])) q) ≡ cond (same_id q (id_of w)) (given (row_of w (place_among (after [] ws) w) None))
+    (change_if (with_mark (id_of w)) (cancels_it q w.action (place_among (after [] ws) w)) (given (row_in (told_list ws) q)))
 part-push given part ws w q new =
     ap given (rows-push ws w q new)
-    ∙ part-cond given (same_id q (id_of w)) (row_of w (place_among (after [] ws) w) None) (change_if (with_mark (id_of w)) (cancels_it q w.action (place_among (after [] ws) w)) (row_in (told_list ws) q))
-    ∙ ap (cond (same_id q (id_of w)) (given (row_of w (place_among (after [] ws) w) None))) (part-marked given part (id_of w) (cancels_it q w.action (place_among (after [] ws) w)) (row_in (told_list ws) q))
+    ∙ part-cond given (same_id q (id_of w)) (row_of w (place_among (after [] ws) w) None)
+    (change_if (with_mark (id_of w)) (cancels_it q w.action (place_among (after [] ws) w)) (row_in (told_list ws) q))
+    ∙ ap (cond (same_id q (id_of w)) (given (row_of w (place_among (after [] ws) w) None)))
+    (part-marked given part (id_of w) (cancels_it q w.action (place_among (after [] ws) w)) (row_in (told_list ws) q))
 
 -- the part that is looked at has what the list gives it: with one write more, and with the last one undone
 abbrev pub PartHas : (Option Row → Option Row) → (Option Row → Option Row) → List Write → Rows → Type 0
 PartHas see given ws b = (i : Id) → see (row_at b i) ≡ given (row_in (told_list ws) i)
 
 module _ (see given : Option Row → Option Row) (part : IsPart see) (given_part : IsPart given) where
-  pub part_has-executed : (ws : List Write) (b : Rows) (w : Write) → see (row_of w (place_by_rows b w) None) ≡ given (row_of w (place_by_rows b w) None) → place_by_rows b w ≡ place_among (after [] ws) w → is_among (id_of w) (map id_of ws) ≡ false
+  pub part_has-executed : (ws : List Write) (b : Rows) (w : Write) → see (row_of w (place_by_rows b w) None) ≡ given (row_of w (place_by_rows b w) None)
+      → place_by_rows b w ≡ place_among (after [] ws) w → is_among (id_of w) (map id_of ws) ≡ false
       → PartHas see given ws b → PartHas see given (ws ++ w ∷ []) (executed b w)
   part_has-executed ws b w own place new has q =
       part-executed see part b w (place_by_rows b w) q (has (id_of w) ∙ ap given (rows-none ws (id_of w) new) ∙ given_part.none)
@@ -268,7 +274,7 @@ row-other room w p e = go (trace_for w w.action p None)
     go (Some k) = ap (λ t. cond t (Some (record { room = w.room; trace = k })) None) e
 
 -- a row of one room is of no other
-if_of-apart : (room other : Text) (o : Option Row) (row : Row) → if_of room o ≡ Some row → bytes_eq other room ≡ false → if_of other o ≡ None
+pub if_of-apart : (room other : Text) (o : Option Row) (row : Row) → if_of room o ≡ Some row → bytes_eq other room ≡ false → if_of other o ≡ None
 if_of-apart room other None row h e = refl
 if_of-apart room other (Some r) row h e = go (bytes_eq r.room room) refl h
   where
@@ -293,11 +299,13 @@ same_row (Some x) (Some y) h = by (bytes_eq y.room x.room) (sym (ap (λ t. cond 
 
 -- ---- in its own room
 
-pub HoldsIn-executed : (room : Text) (ws : List Write) (b : Rows) (w : Write) → w.room ≡ room → IsInOrder b → HaveDistinctIds ws → is_among (id_of w) (map id_of ws) ≡ false → HoldsIn room ws b → HoldsIn room (ws ++ w ∷ []) (executed b w)
+pub HoldsIn-executed : (room : Text) (ws : List Write) (b : Rows) (w : Write) → w.room ≡ room → IsInOrder b → HaveDistinctIds ws
+    → is_among (id_of w) (map id_of ws) ≡ false → HoldsIn room ws b → HoldsIn room (ws ++ w ∷ []) (executed b w)
 HoldsIn-executed room ws b w is ordered distinct new holds =
     part_has-executed (if_of room) (λ o. o) (room_part room) whole_part ws b w (row-own room w (place_by_rows b w) is) (same_place room ws b w is ordered distinct holds) new holds
 
-pub HoldsIn-undone : (room : Text) (ws : List Write) (b : Rows) (w : Write) → IsInOrder b → is_among (id_of w) (map id_of ws) ≡ false → HoldsIn room (ws ++ w ∷ []) b → HoldsIn room ws (undone b (undo_row_at w (place_among (after [] ws) w)))
+pub HoldsIn-undone : (room : Text) (ws : List Write) (b : Rows) (w : Write) → IsInOrder b → is_among (id_of w) (map id_of ws) ≡ false
+    → HoldsIn room (ws ++ w ∷ []) b → HoldsIn room ws (undone b (undo_row_at w (place_among (after [] ws) w)))
 HoldsIn-undone room ws b w ordered new holds = part_has-undone (if_of room) (λ o. o) (room_part room) whole_part ws b w (λ c o h. h) ordered new holds
 
 -- ---- in another room
@@ -328,10 +336,11 @@ not_there room b i q o none gone = go (same_id q i) refl
     go true e = none ∙ sym (ap (λ j. if_of room (row_at b j)) (same_id-true q i e) ∙ gone)
     go false e = refl
 
-apart : (room other : Text) → bytes_eq room other ≡ false → bytes_eq other room ≡ false
-apart room other e = false_from_ne_true (bytes_eq other room) (λ s. true≢false (sym (same_name room other (sym (one_name other room s))) ∙ e))
+pub apart_names : (room other : Text) → bytes_eq room other ≡ false → bytes_eq other room ≡ false
+apart_names room other e = false_from_ne_true (bytes_eq other room) (λ s. true≢false (sym (same_name room other (sym (one_name other room s))) ∙ e))
 
-pub other-executed : (room : Text) (b : Rows) (w : Write) → bytes_eq w.room room ≡ false → IsInOrder b → if_of room (row_at b (id_of w)) ≡ None → (q : Id) → if_of room (row_at (executed b w) q) ≡ if_of room (row_at b q)
+pub other-executed : (room : Text) (b : Rows) (w : Write) → bytes_eq w.room room ≡ false → IsInOrder b
+    → if_of room (row_at b (id_of w)) ≡ None → (q : Id) → if_of room (row_at (executed b w) q) ≡ if_of room (row_at b q)
 other-executed room b w other ordered new q =
     part-executed (if_of room) (room_part room) b w (place_by_rows b w) q new
     ∙ ap (cond (same_id q (id_of w)) (if_of room (row_of w (place_by_rows b w) None))) (unchanged (cancels_it q w.action (place_by_rows b w)) refl)
@@ -341,10 +350,11 @@ other-executed room b w other ordered new q =
     unchanged false e = refl
     unchanged true e =
         let (row, at) = target_row b w.room q ordered (cancels_booked (bookings_of w.room b) w.action q e) in
-        let none : if_of room (row_at b q) ≡ None = if_of-apart w.room room (row_at b q) row at (apart w.room room other) in
+        let none : if_of room (row_at b q) ≡ None = if_of-apart w.room room (row_at b q) row at (apart_names w.room room other) in
         ap (option_map (change (with_mark (id_of w)))) none ∙ sym none
 
-pub other-undone : (room other : Text) (ws : List Write) (b : Rows) (w : Write) → bytes_eq other room ≡ false → IsInOrder b → HaveDistinctIds ws → is_among (id_of w) (map id_of ws) ≡ false → HoldsIn room (ws ++ w ∷ []) b
+pub other-undone : (room other : Text) (ws : List Write) (b : Rows) (w : Write) → bytes_eq other room ≡ false
+    → IsInOrder b → HaveDistinctIds ws → is_among (id_of w) (map id_of ws) ≡ false → HoldsIn room (ws ++ w ∷ []) b
     → (q : Id) → if_of other (row_at (undone b (undo_row_at w (place_among (after [] ws) w))) q) ≡ if_of other (row_at b q)
 other-undone room other ws b w away ordered distinct new holds q =
     part-undone (if_of other) (room_part other) b i w.action p q ordered ∙ go (takes_away w.action p) refl (cancels_it q w.action p) refl
@@ -383,7 +393,8 @@ other-undone room other ws b w away ordered distinct new holds q =
         ∙ ap (λ c. cond c (row_of w p None) (change_if (with_mark i) (cancels_it q w.action p) (row_in (told_list ws) q))) not_own
         ∙ ap (λ c. change_if (with_mark i) c (row_in (told_list ws) q)) e ∙ ap (option_map (change (with_mark i))) there)
 
-    go : (t : Bool) → takes_away w.action p ≡ t → (c : Bool) → cancels_it q w.action p ≡ c → cond t (cond (same_id q i) None (if_of other (row_at b q))) (change_if (without_mark i) c (if_of other (row_at b q))) ≡ if_of other (row_at b q)
+    go : (t : Bool) → takes_away w.action p ≡ t → (c : Bool) → cancels_it q w.action p ≡ c
+        → cond t (cond (same_id q i) None (if_of other (row_at b q))) (change_if (without_mark i) c (if_of other (row_at b q))) ≡ if_of other (row_at b q)
     go true takes c cancels = not_there other b i q None refl (own takes)
     go false takes false cancels = refl
     go false takes true cancels = ap (option_map (change (without_mark i))) (target cancels) ∙ sym (target cancels)

@@ -104,18 +104,19 @@ module _ (base own : Rows) (old new : BTreeSet Id) (i : Id) (can : CanOverlay ba
 
 -- ---- whether some row passes a test
 
-swap-or : (a b c : Bool) → (a || (b || c)) ≡ (b || (a || c))
-swap-or true true c = refl
-swap-or true false c = refl
-swap-or false b c = refl
+pub or_swap : (a b c : Bool) → (a || (b || c)) ≡ (b || (a || c))
+or_swap true true c = refl
+or_swap true false c = refl
+or_swap false b c = refl
 
 any-put : (p : Row → Bool) (b : Rows) (i : Id) (row : Row) → lookup (at i) b ≡ None → list_any p (values_of (insert_entry id_cmp b i row)) ≡ (p row || list_any p (values_of b))
 any-put p [] i row absent = refl
 any-put p (e ∷ es) i row absent =
-    elim (id_cmp i e.0) as (λ o. cond (is_eq o) (Some e.1) (lookup (at i) es) ≡ None → list_any p (values_of (match_ordering o ((i, row) ∷ e ∷ es) ((e.0, row) ∷ es) (e ∷ insert_entry id_cmp es i row))) ≡ (p row || (p e.1 || list_any p (values_of es)))) [
+    elim (id_cmp i e.0) as (λ o. cond (is_eq o) (Some e.1) (lookup (at i) es) ≡ None
+    → list_any p (values_of (match_ordering o ((i, row) ∷ e ∷ es) ((e.0, row) ∷ es) (e ∷ insert_entry id_cmp es i row))) ≡ (p row || (p e.1 || list_any p (values_of es)))) [
       | Less ↦ λ _. refl
       | Equal ↦ λ h. cc
-      | Greater ↦ λ h. ap (λ t. p e.1 || t) (any-put p es i row h) ∙ swap-or (p e.1) (p row) (list_any p (values_of es))
+      | Greater ↦ λ h. ap (λ t. p e.1 || t) (any-put p es i row h) ∙ or_swap (p e.1) (p row) (list_any p (values_of es))
     ] absent
 
 assoc-or : (a b c : Bool) → (a || (b || c)) ≡ ((a || b) || c)

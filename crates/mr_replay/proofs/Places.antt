@@ -26,12 +26,14 @@ undo_rows-after ws (v ∷ vs) b distinct holds =
     λ t. here t ∷ rest t
 
 -- the same where the board holds lists room by room
-undo_row-room : (lists : Text → List Write) (room : Text) (b : Rows) (w : Write) → HoldsEach lists b → HaveDistinctIds (lists room) → AreOfRoom room (lists room) → w.room ≡ room → undo_row_of b w ≡ undo_row_after (lists room) w
+undo_row-room : (lists : Text → List Write) (room : Text) (b : Rows) (w : Write) → HoldsEach lists b
+    → HaveDistinctIds (lists room) → AreOfRoom room (lists room) → w.room ≡ room → undo_row_of b w ≡ undo_row_after (lists room) w
 undo_row-room lists room b w holds distinct of_it is =
     ap (undo_row_at w)
     (same_place room (lists room) b w is holds.ordered distinct (holds.rooms room) ∙ ap (λ l. place_among (after [] l) w) (sym (part-all room w.room (lists room) is of_it)))
 
-pub undo_rows-room : (lists : Text → List Write) (room : Text) (vs : List Write) (b : Rows) → HoldsEach lists b → HaveDistinctIds (lists room ++ vs) → AreOfRoom room (lists room ++ vs) → HaveNoRows b vs → undo_rows_of b vs ≡ undo_rows_after (lists room) vs
+pub undo_rows-room : (lists : Text → List Write) (room : Text) (vs : List Write) (b : Rows) → HoldsEach lists b
+    → HaveDistinctIds (lists room ++ vs) → AreOfRoom room (lists room ++ vs) → HaveNoRows b vs → undo_rows_of b vs ≡ undo_rows_after (lists room) vs
 undo_rows-room lists room [] b holds distinct of_it new = refl
 undo_rows-room lists room (v ∷ vs) b holds distinct of_it new =
     let here = undo_row-room lists room b v holds (distinct_front (lists room) (v ∷ vs) distinct) (of_room-front room (lists room) (v ∷ vs) of_it) is in

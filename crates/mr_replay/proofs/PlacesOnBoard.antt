@@ -72,7 +72,8 @@ booking-row room (e ∷ es) x ordered h = go (has_split x (bookings_of_entry roo
     other false k g = g
     other true k g = absurd (subst (λ o. Has x (booked_at x.id (if_of room o))) (ap (row_at es) (same_id-true x.id e.0 k) ∙ first_absent e es ordered) g)
 
-    go : Has x (bookings_of_entry room e) ⊎ Has x (bookings_of room es) → (Has x (bookings_of room es) → Has x (booked_at x.id (if_of room (row_at es x.id)))) → Has x (booked_at x.id (if_of room (cond (same_id x.id e.0) (Some e.1) (row_at es x.id))))
+    go : Has x (bookings_of_entry room e) ⊎ Has x (bookings_of room es) → (Has x (bookings_of room es) → Has x (booked_at x.id (if_of room (row_at es x.id))))
+        → Has x (booked_at x.id (if_of room (cond (same_id x.id e.0) (Some e.1) (row_at es x.id))))
     go (inl g) rest =
         let at : x.id ≡ e.0 = entry_id room e x g in
         subst (λ c. Has x (booked_at x.id (if_of room (cond c (Some e.1) (row_at es x.id))))) (sym (same_id_from x.id e.0 at))
@@ -83,8 +84,10 @@ pub row-booking : (room : Text) (b : Rows) (x : Booking) → Has x (booked_at x.
 row-booking room [] x h = absurd h
 row-booking room (e ∷ es) x h = go (same_id x.id e.0) refl h (row-booking room es x)
   where
-    go : (c : Bool) → same_id x.id e.0 ≡ c → Has x (booked_at x.id (if_of room (cond c (Some e.1) (row_at es x.id)))) → (Has x (booked_at x.id (if_of room (row_at es x.id))) → Has x (bookings_of room es)) → Has x (bookings_of_entry room e ++ bookings_of room es)
-    go true k g rest = has_left x (bookings_of_entry room e) (bookings_of room es) (subst (λ bs. Has x bs) (sym (entry_at room e)) (subst (λ i. Has x (booked_at i (if_of room (Some e.1)))) (same_id-true x.id e.0 k) g))
+    go : (c : Bool) → same_id x.id e.0 ≡ c → Has x (booked_at x.id (if_of room (cond c (Some e.1) (row_at es x.id))))
+        → (Has x (booked_at x.id (if_of room (row_at es x.id))) → Has x (bookings_of room es)) → Has x (bookings_of_entry room e ++ bookings_of room es)
+    go true k g rest = has_left x (bookings_of_entry room e) (bookings_of room es)
+        (subst (λ bs. Has x bs) (sym (entry_at room e)) (subst (λ i. Has x (booked_at i (if_of room (Some e.1)))) (same_id-true x.id e.0 k) g))
     go false k g rest = has_right x (bookings_of_entry room e) (bookings_of room es) (rest g)
 
 -- ---- what a cancel finds: its target is among the bookings where its row is one of the room's that stand
@@ -147,7 +150,8 @@ same_members room ws b ordered distinct has x = (
 )
 
 -- so a write of the room goes to the place that the room's replay gives it
-pub place_by_bookings : (room : Text) (ws : List Write) (b : Rows) (w : Write) → w.room ≡ room → IsInOrder b → HaveDistinctIds ws → HasBookings room ws b → place_by_rows b w ≡ place_among (after [] ws) w
+pub place_by_bookings : (room : Text) (ws : List Write) (b : Rows) (w : Write) → w.room ≡ room → IsInOrder b
+    → HaveDistinctIds ws → HasBookings room ws b → place_by_rows b w ≡ place_among (after [] ws) w
 place_by_bookings room ws b w is ordered distinct has =
     ap (λ r. place_among (bookings_of r b) w) is ∙ place_alike (bookings_of room b) (after [] ws) (same_members room ws b ordered distinct has) w.action
 

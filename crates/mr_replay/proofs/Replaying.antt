@@ -9,7 +9,8 @@ pub record IsReplayed (start : Rows) (ws left : List Write) (b : Rows) (us : Lis
   pub noted : us ++ undo_rows_of b left ≡ undo_rows_of start ws
   pub board : executed_all b left ≡ executed_all start ws
 
-pub IsReplayed-more : (start : Rows) (ws left : List Write) (b : Rows) (us : List UndoRow) (w : Write) → IsReplayed start ws (w ∷ left) b us → IsReplayed start ws left (executed b w) (us ++ undo_row_of b w ∷ [])
+pub IsReplayed-more : (start : Rows) (ws left : List Write) (b : Rows) (us : List UndoRow) (w : Write)
+    → IsReplayed start ws (w ∷ left) b us → IsReplayed start ws left (executed b w) (us ++ undo_row_of b w ∷ [])
 IsReplayed-more start ws left b us w h = record {
   noted = append_assoc us (undo_row_of b w ∷ []) (undo_rows_of (executed b w) left) ∙ h.noted;
   board = h.board;

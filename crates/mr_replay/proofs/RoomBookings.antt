@@ -18,11 +18,14 @@ use Rattle.mr_replay.proofs.PlacesOnBoard.{place_by_bookings}
 
 -- ---- one write of the room
 
-pub HasBookings-executed : (room : Text) (ws : List Write) (b : Rows) (w : Write) → w.room ≡ room → IsInOrder b → HaveDistinctIds ws → is_among (id_of w) (map id_of ws) ≡ false → HasBookings room ws b → HasBookings room (ws ++ w ∷ []) (executed b w)
+pub HasBookings-executed : (room : Text) (ws : List Write) (b : Rows) (w : Write) → w.room ≡ room → IsInOrder b → HaveDistinctIds ws
+    → is_among (id_of w) (map id_of ws) ≡ false → HasBookings room ws b → HasBookings room (ws ++ w ∷ []) (executed b w)
 HasBookings-executed room ws b w is ordered distinct new has =
-    part_has-executed (λ o. if_taken (if_of room o)) if_taken (bookings_part room) taken_part ws b w (ap if_taken (row-own room w (place_by_rows b w) is)) (place_by_bookings room ws b w is ordered distinct has) new has
+    part_has-executed (λ o. if_taken (if_of room o)) if_taken (bookings_part room) taken_part ws b w
+    (ap if_taken (row-own room w (place_by_rows b w) is)) (place_by_bookings room ws b w is ordered distinct has) new has
 
-pub HasBookings-undone : (room : Text) (ws : List Write) (b : Rows) (w : Write) → IsInOrder b → is_among (id_of w) (map id_of ws) ≡ false → HasBookings room (ws ++ w ∷ []) b → HasBookings room ws (undone b (undo_row_at w (place_among (after [] ws) w)))
+pub HasBookings-undone : (room : Text) (ws : List Write) (b : Rows) (w : Write) → IsInOrder b → is_among (id_of w) (map id_of ws) ≡ false
+    → HasBookings room (ws ++ w ∷ []) b → HasBookings room ws (undone b (undo_row_at w (place_among (after [] ws) w)))
 HasBookings-undone room ws b w ordered new has = part_has-undone (λ o. if_taken (if_of room o)) if_taken (bookings_part room) taken_part ws b w bears_not-taken ordered new has
 
 -- ---- several writes of the room
@@ -32,18 +35,21 @@ in_order-undone_all [] b h = h
 in_order-undone_all (u ∷ us) b h = in_order-undone u.id u.place u.target (undone_all b us) (in_order-undone_all us b h)
 
 -- the room's last writes undone
-pub HasBookings-undone_all : (room : Text) (tail front : List Write) (b : Rows) → AreOfRoom room front → AreOfRoom room tail → HaveDistinctIds (front ++ tail) → IsInOrder b → HasBookings room (front ++ tail) b → HasBookings room front (undone_all b (undo_rows_after front tail))
+pub HasBookings-undone_all : (room : Text) (tail front : List Write) (b : Rows) → AreOfRoom room front → AreOfRoom room tail
+    → HaveDistinctIds (front ++ tail) → IsInOrder b → HasBookings room (front ++ tail) b → HasBookings room front (undone_all b (undo_rows_after front tail))
 HasBookings-undone_all room [] front b of_front of_tail distinct ordered has = subst (λ (ws : List Write). HasBookings room ws b) (append-nil front) has
 HasBookings-undone_all room (w ∷ vs) front b of_front of_tail distinct ordered has =
     let joined : (front ++ w ∷ []) ++ vs ≡ front ++ w ∷ vs = append_assoc front (w ∷ []) vs in
     let rest : Rows = undone_all b (undo_rows_after (front ++ w ∷ []) vs) in
     subst (λ (u : UndoRow). HasBookings room front (undone rest u)) (sym (room_undo room w front of_tail.0 of_front))
     (HasBookings-undone room front rest w (in_order-undone_all (undo_rows_after (front ++ w ∷ []) vs) b ordered) (distinct_next front w vs distinct)
-    (HasBookings-undone_all room vs (front ++ w ∷ []) b (of_room-append room front (w ∷ []) of_front (of_tail.0, tt)) of_tail.1 (subst (λ (ws : List Write). HaveDistinctIds ws) (sym joined) distinct) ordered
+    (HasBookings-undone_all room vs (front ++ w ∷ []) b (of_room-append room front (w ∷ []) of_front (of_tail.0, tt)) of_tail.1
+    (subst (λ (ws : List Write). HaveDistinctIds ws) (sym joined) distinct) ordered
     (subst (λ (ws : List Write). HasBookings room ws b) (sym joined) has)))
 
 -- executing writes of the room gives them the places of its replay
-places_of_bookings : (room : Text) (again front : List Write) (b : Rows) → AreOfRoom room again → HaveDistinctIds (front ++ again) → IsInOrder b → HasBookings room front b → map (λ u. u.place) (undo_rows_of b again) ≡ replay_among (after [] front) again
+places_of_bookings : (room : Text) (again front : List Write) (b : Rows) → AreOfRoom room again → HaveDistinctIds (front ++ again)
+    → IsInOrder b → HasBookings room front b → map (λ u. u.place) (undo_rows_of b again) ≡ replay_among (after [] front) again
 places_of_bookings room [] front b of_room distinct ordered has = λ i. []
 places_of_bookings room (w ∷ vs) front b of_room distinct ordered has =
     let joined : (front ++ w ∷ []) ++ vs ≡ front ++ w ∷ vs = append_assoc front (w ∷ []) vs in
@@ -56,7 +62,8 @@ places_of_bookings room (w ∷ vs) front b of_room distinct ordered has =
     ∙ ap (λ bs. replay_among bs vs) (after-append [] front (w ∷ [])) in
     λ t. here t ∷ rest t
 
-HasBookings-executed_all : (room : Text) (again front : List Write) (b : Rows) → AreOfRoom room again → HaveDistinctIds (front ++ again) → IsInOrder b → HasBookings room front b → HasBookings room (front ++ again) (executed_all b again)
+HasBookings-executed_all : (room : Text) (again front : List Write) (b : Rows) → AreOfRoom room again → HaveDistinctIds (front ++ again)
+    → IsInOrder b → HasBookings room front b → HasBookings room (front ++ again) (executed_all b again)
 HasBookings-executed_all room [] front b of_room distinct ordered has = subst (λ (ws : List Write). HasBookings room ws b) (sym (append-nil front)) has
 HasBookings-executed_all room (w ∷ vs) front b of_room distinct ordered has =
     let joined : (front ++ w ∷ []) ++ vs ≡ front ++ w ∷ vs = append_assoc front (w ∷ []) vs in
@@ -67,10 +74,15 @@ HasBookings-executed_all room (w ∷ vs) front b of_room distinct ordered has =
 
 -- ---- undoing the last ones, and executing others in their place
 
-pub bookings-replayed : (room : Text) (front tail : List Write) (b : Rows) (us : List UndoRow) (again : List Write) → CanReplayBookings room front tail b us again → HasBookings room front (undone_all b us) × (map (λ u. u.place) (undo_rows_of (undone_all b us) again) ≡ replay_among (after [] front) again) × HasBookings room (front ++ again) (executed_all (undone_all b us) again)
+pub bookings-replayed : (room : Text) (front tail : List Write) (b : Rows) (us : List UndoRow) (again : List Write) → CanReplayBookings room front tail b us again
+    → HasBookings room front (undone_all b us) × (map (λ u. u.place) (undo_rows_of (undone_all b us) again) ≡ replay_among (after [] front) again)
+    × HasBookings room (front ++ again) (executed_all (undone_all b us) again)
 bookings-replayed room front tail b us again can =
     let ordered = in_order-undone_all us b can.ordered in
     let has : HasBookings room front (undone_all b us) =
     subst (λ (rows : List UndoRow). HasBookings room front (undone_all b rows)) (sym can.rows)
-    (HasBookings-undone_all room tail front b (of_room-front room front tail can.of_room) (of_room-back room front tail can.of_room) can.distinct can.ordered can.bookings) in
-    (has, places_of_bookings room again front (undone_all b us) can.again_of_room can.again_distinct ordered has, HasBookings-executed_all room again front (undone_all b us) can.again_of_room can.again_distinct ordered has)
+    (HasBookings-undone_all room tail front b (of_room-front room front tail can.of_room) (of_room-back room front tail can.of_room) can.distinct can.ordered can.bookings) in (
+      has,
+      places_of_bookings room again front (undone_all b us) can.again_of_room can.again_distinct ordered has,
+      HasBookings-executed_all room again front (undone_all b us) can.again_of_room can.again_distinct ordered has,
+    )

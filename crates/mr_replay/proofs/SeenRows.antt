@@ -86,7 +86,8 @@ taken_out rooms room e out seen = go (bytes_eq e.1.room room) refl
     go true s = absurd (true≢false (sym seen ∙ ap (λ t. is_taken e.1.trace && t) (ap (has_room rooms) (one_name e.1.room room s) ∙ out) ∙ and_false (is_taken e.1.trace)))
 
 -- a room that is seen has the bookings that it has
-pub bookings-seen : (rooms : BTreeSet Text) (hidden : BTreeSet Id) (room : Text) (b : Rows) → has_room rooms room ≡ true → bookings_of room (shown hidden (seen_in rooms b)) ≡ bookings_of room (shown hidden b)
+pub bookings-seen : (rooms : BTreeSet Text) (hidden : BTreeSet Id) (room : Text) (b : Rows)
+    → has_room rooms room ≡ true → bookings_of room (shown hidden (seen_in rooms b)) ≡ bookings_of room (shown hidden b)
 bookings-seen rooms hidden room [] there = refl
 bookings-seen rooms hidden room (e ∷ es) there = go (is_in_rooms rooms e.1) refl (not (is_hidden hidden e.0)) refl (bookings-seen rooms hidden room es there)
   where

@@ -58,17 +58,20 @@ trace_stays w (Cancels t) Logged c d = refl
 trace_stays w (Cancels t) Done c d = refl
 trace_stays w (Cancels t) Void c d = refl
 
-in_room : (w : Write) (o p : Option Trace) (c : Id) → o ≡ option_map (with_mark c) p → option_map (λ k. record { room = w.room; trace = k }) o ≡ option_map (change (with_mark c)) (option_map (λ k. record { room = w.room; trace = k }) p)
+in_room : (w : Write) (o p : Option Trace) (c : Id) → o ≡ option_map (with_mark c) p
+    → option_map (λ k. record { room = w.room; trace = k }) o ≡ option_map (change (with_mark c)) (option_map (λ k. record { room = w.room; trace = k }) p)
 in_room w o None c e = ap (option_map (λ (k : Trace). record { room = w.room; trace = k })) e
 in_room w o (Some k) c e = ap (option_map (λ (j : Trace). record { room = w.room; trace = j })) e
 
 -- the row of a told write, with one more write behind it
-late_row : (w : Write) (p : Place) (o : Option Placed) (q : Placed) (b : Bool) → row_of w p (option_map (λ c. id_of c.write) (or_else o (cond b (Some q) None))) ≡ change_if (with_mark (id_of q.write)) b (row_of w p (option_map (λ c. id_of c.write) o))
+late_row : (w : Write) (p : Place) (o : Option Placed) (q : Placed) (b : Bool)
+    → row_of w p (option_map (λ c. id_of c.write) (or_else o (cond b (Some q) None))) ≡ change_if (with_mark (id_of q.write)) b (row_of w p (option_map (λ c. id_of c.write) o))
 unfolding or_else
 late_row w p None q false = refl
 late_row w p (Some x) q false = refl
 late_row w p None q true = in_room w (trace_for w w.action p (Some (id_of q.write))) (trace_for w w.action p None) (id_of q.write) (trace_marked w w.action p (id_of q.write))
-late_row w p (Some x) q true = in_room w (trace_for w w.action p (Some (id_of x.write))) (trace_for w w.action p (Some (id_of x.write))) (id_of q.write) (trace_stays w w.action p (id_of q.write) (id_of x.write))
+late_row w p (Some x) q true =
+    in_room w (trace_for w w.action p (Some (id_of x.write))) (trace_for w w.action p (Some (id_of x.write))) (id_of q.write) (trace_stays w w.action p (id_of q.write) (id_of x.write))
 
 -- one more: its own row, and its mark where it takes a booking back
 pub row_in-push : (ps : List Placed) (q : Placed) (i : Id) → is_among (id_of q.write) (map placed_id ps) ≡ false
@@ -100,7 +103,8 @@ row_in-push (p ∷ ps) q i new = go (same_id (id_of p.write) i) refl (row_in-pus
 
     go : (b : Bool) → same_id (id_of p.write) i ≡ b
         → row_in (tell (ps ++ q ∷ [])) i ≡ cond (same_id i (id_of q.write)) (row_of q.write q.place None) (change_if (with_mark (id_of q.write)) c (row_in (tell ps) i))
-        → row_if (cond b (Some newer) (told_of i (tell (ps ++ q ∷ [])))) ≡ cond (same_id i (id_of q.write)) (row_of q.write q.place None) (change_if (with_mark (id_of q.write)) c (row_if (cond b (Some old) (told_of i (tell ps)))))
+        → row_if (cond b (Some newer) (told_of i (tell (ps ++ q ∷ []))))
+        ≡ cond (same_id i (id_of q.write)) (row_of q.write q.place None) (change_if (with_mark (id_of q.write)) c (row_if (cond b (Some old) (told_of i (tell ps)))))
     go true e ih =
         ap (λ o. row_of p.write p.place (option_map (λ x. id_of x.write) o)) (cancel_of-push (id_of p.write) ps q)
         ∙ late_row p.write p.place (cancel_of (id_of p.write) ps) q (cancels_it (id_of p.write) q.write.action q.place)
@@ -112,7 +116,8 @@ pub row_in-none : (ps : List Placed) (i : Id) → is_among i (map placed_id ps) 
 row_in-none [] i h = refl
 row_in-none (p ∷ ps) i h =
     let parts = or_parts (same_id i (id_of p.write)) (is_among i (map placed_id ps)) h in
-    ap (λ b. row_if (cond b (Some (record { write = p.write; is_committed = p.is_committed; place = p.place; cancelled_by = cancel_of (id_of p.write) ps })) (told_of i (tell ps)))) (same_id_equivalence.symm (id_of p.write) i ∙ parts.0)
+    ap (λ b. row_if (cond b (Some (record { write = p.write; is_committed = p.is_committed; place = p.place; cancelled_by = cancel_of (id_of p.write) ps })) (told_of i (tell ps))))
+    (same_id_equivalence.symm (id_of p.write) i ∙ parts.0)
     ∙ row_in-none ps i parts.1
 
 -- ---- a row bears only marks of the list's own writes
@@ -127,7 +132,8 @@ BearsNot c (Some row) = bears c row.trace ≡ false
 placed_among_has : (q : Placed) (ps : List Placed) → Has q ps → Has (placed_id q) (map placed_id ps)
 placed_among_has q ps h = has_map placed_id q ps h
 
-trace_bears : (w : Write) (a : Action) (p : Place) (c : Id) (o : Option Id) → ((d : Id) → o ≡ Some d → same_id d c ≡ false) → BearsNot c (option_map (λ k. record { room = w.room; trace = k }) (trace_for w a p o))
+trace_bears : (w : Write) (a : Action) (p : Place) (c : Id) (o : Option Id) → ((d : Id) → o ≡ Some d → same_id d c ≡ false)
+    → BearsNot c (option_map (λ k. record { room = w.room; trace = k }) (trace_for w a p o))
 trace_bears w (Books m) p c o f = go (slot_at w p) o f
   where
     go : (s : Option Slot) (o : Option Id) → ((d : Id) → o ≡ Some d → same_id d c ≡ false) → bears c (trace_with m s o) ≡ false
@@ -192,7 +198,8 @@ list_ids ws = ap (map placed_id) (list_places-is ws) ∙ go [] ws
     go bs (v ∷ vs) = ap (λ (is : List Id). id_of v ∷ is) (go (booked_with bs v (place_among bs v)) vs)
 
 pub rows-push : (ws : List Write) (w : Write) (i : Id) → is_among (id_of w) (map id_of ws) ≡ false
-    → row_in (told_list (ws ++ w ∷ [])) i ≡ cond (same_id i (id_of w)) (row_of w (place_among (after [] ws) w) None) (change_if (with_mark (id_of w)) (cancels_it i w.action (place_among (after [] ws) w)) (row_in (told_list ws) i))
+    → row_in (told_list (ws ++ w ∷ [])) i
+    ≡ cond (same_id i (id_of w)) (row_of w (place_among (after [] ws) w) None) (change_if (with_mark (id_of w)) (cancels_it i w.action (place_among (after [] ws) w)) (row_in (told_list ws) i))
 rows-push ws w i new =
     ap (λ ps. row_in (tell ps) i) (list_places-push ws w)
     ∙ row_in-push (list_places ws) (record { write = w; is_committed = false; place = place_among (after [] ws) w }) i (ap (is_among (id_of w)) (list_ids ws) ∙ new)
@@ -209,7 +216,8 @@ abbrev pub booked_at : Id → Option Row → List Booking
 booked_at i None = []
 booked_at i (Some row) = booking_traced i row.trace
 
-told_booking : (w : Write) (a : Action) (p : Place) (o : Option Placed) → w.action ≡ a → booked_at (id_of w) (option_map (λ k. record { room = w.room; trace = k }) (trace_for w a p (option_map (λ x. id_of x.write) o))) ≡ booking_unless o w p
+told_booking : (w : Write) (a : Action) (p : Place) (o : Option Placed) → w.action ≡ a
+    → booked_at (id_of w) (option_map (λ k. record { room = w.room; trace = k }) (trace_for w a p (option_map (λ x. id_of x.write) o))) ≡ booking_unless o w p
 told_booking w (Books m) p o e = go (slot_at w p) o ∙ sym (unless_taken w p o)
   where
     long : length_of w ≡ m.length
@@ -225,7 +233,8 @@ told_booking w (Cancels t) p o e = go p o
     none : (k : ℕ) → slot_at w (Taken k) ≡ None
     none k = ap (λ b. slice_get (choices_in b) k) e
 
-    go : (p : Place) (o : Option Placed) → booked_at (id_of w) (option_map (λ k. record { room = w.room; trace = k }) (trace_for w (Cancels t) p (option_map (λ x. id_of x.write) o))) ≡ booking_unless o w p
+    go : (p : Place) (o : Option Placed)
+        → booked_at (id_of w) (option_map (λ k. record { room = w.room; trace = k }) (trace_for w (Cancels t) p (option_map (λ x. id_of x.write) o))) ≡ booking_unless o w p
     go (Taken k) None = sym (ap (booking_of w) (none k))
     go (Taken k) (Some q) = refl
     go Logged None = refl
@@ -283,8 +292,10 @@ there_booked : (ts : List Told) (x : Booking) → Has x (booked_at x.id (row_in 
 there_booked [] x h = absurd h
 there_booked (t ∷ ts) x h = go (same_id (id_of t.write) x.id) refl h (there_booked ts x)
   where
-    go : (b : Bool) → same_id (id_of t.write) x.id ≡ b → Has x (booked_at x.id (row_if (cond b (Some t) (told_of x.id ts)))) → (Has x (booked_at x.id (row_in ts x.id)) → Has x (flat_map booked_told ts)) → Has x (booked_told t ++ flat_map booked_told ts)
-    go true e g ih = has_left x (booked_told t) (flat_map booked_told ts) (subst (λ bs. Has x bs) (told-booking t) (subst (λ i. Has x (booked_at i (told_row t))) (sym (same_id-true (id_of t.write) x.id e)) g))
+    go : (b : Bool) → same_id (id_of t.write) x.id ≡ b → Has x (booked_at x.id (row_if (cond b (Some t) (told_of x.id ts))))
+        → (Has x (booked_at x.id (row_in ts x.id)) → Has x (flat_map booked_told ts)) → Has x (booked_told t ++ flat_map booked_told ts)
+    go true e g ih = has_left x (booked_told t) (flat_map booked_told ts)
+        (subst (λ bs. Has x bs) (told-booking t) (subst (λ i. Has x (booked_at i (told_row t))) (sym (same_id-true (id_of t.write) x.id e)) g))
     go false e g ih = has_right x (booked_told t) (flat_map booked_told ts) (ih g)
 
 tell_ids : (ps : List Placed) → told_ids (tell ps) ≡ map placed_id ps

@@ -2,8 +2,8 @@
 use Rattle.std.specs.Prelude.{Bool, false, Option, Some, None}
 use Rattle.mr_model.specs.Writes.{Id}
 use Rattle.mr_model.specs.Tables.{Tables}
-use Rattle.mr_agree.specs.Ids.{has_id}
+use Rattle.mr_agree.specs.Ids.{has_row_of_id}
 
 abbrev pub is_taken : Option Id → Tables → Bool
 is_taken None t = false
-is_taken (Some id) t = has_id id t
+is_taken (Some id) t = has_row_of_id id t

@@ -16,7 +16,8 @@ use Rattle.mr_tables.specs.Written.{not_booked, not_erred, not_cancelled, with_p
 first_number : (k n : ℕ) → k + 1 + n ≡ k + suc n
 first_number k n = omega arith
 
-log_rows-push : (commits k : ℕ) (ws : List Write) (us : List UndoRow) (w : Write) (u : UndoRow) → length us ≡ length ws → log_rows commits k (ws ++ w ∷ []) (us ++ u ∷ []) ≡ log_rows commits k ws us ++ log_row_on commits (k + length ws) w u ∷ []
+log_rows-push : (commits k : ℕ) (ws : List Write) (us : List UndoRow) (w : Write) (u : UndoRow) → length us ≡ length ws
+    → log_rows commits k (ws ++ w ∷ []) (us ++ u ∷ []) ≡ log_rows commits k ws us ++ log_row_on commits (k + length ws) w u ∷ []
 log_rows-push commits k [] [] w u l = let e : k ≡ k + 0 = omega arith in ap (λ n. log_row_on commits n w u ∷ []) e
 log_rows-push commits k [] (t ∷ ts) w u l = absurd (let e : suc (length ts) ≡ 0 = l in omega (arith, e))
 log_rows-push commits k (v ∷ vs) [] w u l = absurd (let e : 0 ≡ suc (length vs) = l in omega (arith, e))
@@ -25,7 +26,8 @@ log_rows-push commits k (v ∷ vs) (t ∷ ts) w u l =
     ap (λ rows. log_row_on commits k v t ∷ rows) (log_rows-push commits (k + 1) vs ts w u (omega (arith, e)))
     ∙ ap (λ n. log_row_on commits k v t ∷ (log_rows commits (k + 1) vs ts ++ log_row_on commits n w u ∷ [])) (first_number k (length vs))
 
-place_rows-push : (commits k : ℕ) (ws : List Write) (us : List UndoRow) (bys : List (Option Id)) (w : Write) (u : UndoRow) (by : Option Id) → length us ≡ length ws → length bys ≡ length ws → place_rows commits k (ws ++ w ∷ []) (us ++ u ∷ []) (bys ++ by ∷ []) ≡ place_rows commits k ws us bys ++ place_row_on commits (k + length ws) w u by ∷ []
+place_rows-push : (commits k : ℕ) (ws : List Write) (us : List UndoRow) (bys : List (Option Id)) (w : Write) (u : UndoRow) (by : Option Id) → length us ≡ length ws
+    → length bys ≡ length ws → place_rows commits k (ws ++ w ∷ []) (us ++ u ∷ []) (bys ++ by ∷ []) ≡ place_rows commits k ws us bys ++ place_row_on commits (k + length ws) w u by ∷ []
 place_rows-push commits k [] [] [] w u by l m = let e : k ≡ k + 0 = omega arith in ap (λ n. place_row_on commits n w u by ∷ []) e
 place_rows-push commits k [] (t ∷ ts) bys w u by l m = absurd (let e : suc (length ts) ≡ 0 = l in omega (arith, e))
 place_rows-push commits k [] [] (b ∷ bs) w u by l m = absurd (let e : suc (length bs) ≡ 0 = m in omega (arith, e))
@@ -45,7 +47,8 @@ grown f places row y e = ap (λ o. filter_map f places ++ cons_option o []) (sym
 kept : {Y : Type 0} (f : PlaceRow → Option Y) (places : List PlaceRow) (row : PlaceRow) → f row ≡ None → filter_map f places ≡ filter_map f (places ++ row ∷ [])
 kept f places row e = sym (append-nil (filter_map f places)) ∙ ap (λ o. filter_map f places ++ cons_option o []) (sym e) ∙ sym (filter_map-append f places (row ∷ []))
 
-pub place-push : (meta : MetaRow) (rooms : List Text) (vector : List VectorRow) (log : List LogRow) (places : List PlaceRow) (row : PlaceRow) → with_place (with_places meta rooms vector log places) row ≡ with_places meta rooms vector log (places ++ row ∷ [])
+pub place-push : (meta : MetaRow) (rooms : List Text) (vector : List VectorRow) (log : List LogRow) (places : List PlaceRow) (row : PlaceRow)
+    → with_place (with_places meta rooms vector log places) row ≡ with_places meta rooms vector log (places ++ row ∷ [])
 place-push meta rooms vector log places (Booked row) = λ i. record {
   meta = meta;
   room = rooms;
@@ -105,13 +108,18 @@ place-push meta rooms vector log places (Cancel row) = λ i. record {
 
 -- ---- write by write
 
-pub written-push : (meta : MetaRow) (rooms : List Text) (vector : List VectorRow) (commits k : ℕ) (ws : List Write) (us : List UndoRow) (bys : List (Option Id)) (w : Write) (u : UndoRow) (by : Option Id) → length us ≡ length ws → length bys ≡ length ws → with_write_rows (written meta rooms vector commits k ws us bys) commits (k + length ws) w u by ≡ written meta rooms vector commits k (ws ++ w ∷ []) (us ++ u ∷ []) (bys ++ by ∷ [])
+pub written-push : (meta : MetaRow) (rooms : List Text) (vector : List VectorRow) (commits k : ℕ) (ws : List Write) (us : List UndoRow)
+    (bys : List (Option Id)) (w : Write) (u : UndoRow) (by : Option Id) → length us ≡ length ws → length bys ≡ length ws
+    → with_write_rows (written meta rooms vector commits k ws us bys) commits (k + length ws) w u by ≡ written meta rooms vector commits k (ws ++ w ∷ []) (us ++ u ∷ []) (bys ++ by ∷ [])
 written-push meta rooms vector commits k ws us bys w u by l m =
     place-push meta rooms vector (log_rows commits k ws us ++ log_row_on commits (k + length ws) w u ∷ []) (place_rows commits k ws us bys) (place_row_on commits (k + length ws) w u by)
     ∙ (λ i. with_places meta rooms vector (sym (log_rows-push commits k ws us w u l) i) (sym (place_rows-push commits k ws us bys w u by l m) i))
 
 -- one write more of three lists
-pub written-more : (meta : MetaRow) (rooms : List Text) (vector : List VectorRow) (commits k i : ℕ) (ws : List Write) (us : List UndoRow) (bys : List (Option Id)) (w : Write) (u : UndoRow) (by : Option Id) → length us ≡ length ws → length bys ≡ length ws → i < length ws → w ≡ get_or ws i w → u ≡ get_or us i u → by ≡ get_or bys i by → with_write_rows (written meta rooms vector commits k (take i ws) (take i us) (take i bys)) commits (k + i) w u by ≡ written meta rooms vector commits k (take (i + 1) ws) (take (i + 1) us) (take (i + 1) bys)
+pub written-more : (meta : MetaRow) (rooms : List Text) (vector : List VectorRow) (commits k i : ℕ) (ws : List Write) (us : List UndoRow) (bys : List (Option Id))
+    (w : Write) (u : UndoRow) (by : Option Id) → length us ≡ length ws → length bys ≡ length ws → i < length ws → w ≡ get_or ws i w → u ≡ get_or us i u
+    → by ≡ get_or bys i by → with_write_rows (written meta rooms vector commits k (take i ws) (take i us) (take i bys)) commits (k + i) w u by
+    ≡ written meta rooms vector commits k (take (i + 1) ws) (take (i + 1) us) (take (i + 1) bys)
 written-more meta rooms vector commits k i ws us bys w u by l m low p q r =
     let a : length (take i ws) ≡ i = length-take-le i ws (omega (arith, low)) in
     let b : length (take i us) ≡ i = length-take-le i us (omega (arith, low, l)) in

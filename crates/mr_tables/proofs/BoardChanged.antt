@@ -20,9 +20,10 @@ use Rattle.mr_replay.proofs.IdKeys.{same_id_equivalence}
 use Rattle.mr_replay.proofs.Entries.{IsInOrder, row_at-put, in_order-put, row_at-removed, in_order-removed}
 use Rattle.mr_replay.proofs.Hiding.{same_rows}
 use Rattle.mr_tables.specs.Boards.{booking_entry, error_entry, cancelled_entry, cancel_entry, is_void, put_entries, board_of}
-use Rattle.mr_tables.specs.BoardChanges.{row_of, HaveOneRowEach, cancel_told, row_told, with_told, told_anew}
+use Rattle.mr_tables.specs.BoardChanges.{row_with_id, HaveOneRowEach, cancel_told, row_told, with_told, told_anew}
 use Rattle.mr_tables.specs.Change.{ChangeView, changed, put, put_all, rows_without, id_before}
 use Rattle.mr_tables.specs.TableOrders.{InOrder, id_order}
+use Rattle.mr_tables.proofs.BoardsTold.{entries_ordered}
 
 or_none : (o : Option Row) → option_or o None ≡ o
 or_none None = refl
@@ -45,15 +46,11 @@ row_at-entries (e ∷ es) b i =
     go None true = refl
     go None false = refl
 
-in_order-entries : (es : List (Id × Row)) (b : Rows) → IsInOrder b → IsInOrder (put_entries es b)
-in_order-entries [] b h = h
-in_order-entries (e ∷ es) b h = in_order-entries es (insert_entry id_cmp b e.0 e.1) (in_order-put b e.0 e.1 h)
-
-in_order-board : (t : Tables) → IsInOrder (board_of t)
+pub board_in_order : (t : Tables) → IsInOrder (board_of t)
 unfolding IsStrictlySortedBy
-in_order-board t =
-    in_order-entries (map cancel_entry (filter is_void t.cancels)) _ (in_order-entries (map cancelled_entry t.cancelled) _
-    (in_order-entries (map error_entry t.errorlog) _ (in_order-entries (map booking_entry t.booking) [] tt)))
+board_in_order t =
+    entries_ordered (map cancel_entry (filter is_void t.cancels)) _ (entries_ordered (map cancelled_entry t.cancelled) _
+    (entries_ordered (map error_entry t.errorlog) _ (entries_ordered (map booking_entry t.booking) [] tt)))
 
 -- ---- one table, of which some rows are told
 
@@ -129,16 +126,16 @@ module _ {R : Type 0} (entry : R → Id × Row) (p : R → Bool) where
   found_told (Some x) = cond (p x) (Some (entry x).1) None
 
   -- if no id stands twice the row that is found is the last one
-  last-found : (rows : List R) (i : Id) → AreDistinct (map key rows) → last_in rows i ≡ found_told (row_of key i rows)
+  last-found : (rows : List R) (i : Id) → AreDistinct (map key rows) → last_in rows i ≡ found_told (row_with_id key i rows)
   last-found [] i d = refl
   last-found (x ∷ xs) i d =
-      go (same_id i (key x)) refl (last-found xs i d.1) ∙ ap (λ s. found_told (cond s (Some x) (row_of key i xs))) (same_id_equivalence.symm i (key x))
+      go (same_id i (key x)) refl (last-found xs i d.1) ∙ ap (λ s. found_told (cond s (Some x) (row_with_id key i xs))) (same_id_equivalence.symm i (key x))
     where
       own : (q : Bool) → cond (q && true) (Some (entry x).1) None ≡ cond q (Some (entry x).1) None
       own true = refl
       own false = refl
 
-      go : (s : Bool) → same_id i (key x) ≡ s → last_in xs i ≡ found_told (row_of key i xs) → last_in (x ∷ xs) i ≡ found_told (cond s (Some x) (row_of key i xs))
+      go : (s : Bool) → same_id i (key x) ≡ s → last_in xs i ≡ found_told (row_with_id key i xs) → last_in (x ∷ xs) i ≡ found_told (cond s (Some x) (row_with_id key i xs))
       go true e ih =
           let none : last_in xs i ≡ None = last-absent xs i (ap (λ k. is_among k (map key xs)) (same_id-true i (key x) e) ∙ d.0) in
           (λ k. option_or (none k) (cond (p x && e k) (Some (entry x).1) None)) ∙ own (p x)
@@ -183,10 +180,10 @@ board_tells t i =
 board_row : (t : Tables) (i : Id) → HaveOneRowEach t → row_at (board_of t) i ≡ row_told t i
 board_row t i one =
     board_tells t i
-    ∙ (λ k. option_or ((last-found cancel_entry is_void t.cancels i one.cancels ∙ found_void (row_of cancel_id i t.cancels)) k)
-    (option_or ((last-found cancelled_entry (λ _. true) t.cancelled i one.cancelled ∙ found_all cancelled_entry (row_of cancelled_id i t.cancelled)) k)
-    (option_or ((last-found error_entry (λ _. true) t.errorlog i one.errorlog ∙ found_all error_entry (row_of error_id i t.errorlog)) k)
-    ((last-found booking_entry (λ _. true) t.booking i one.booking ∙ found_all booking_entry (row_of booking_id i t.booking)) k))))
+    ∙ (λ k. option_or ((last-found cancel_entry is_void t.cancels i one.cancels ∙ found_void (row_with_id cancel_id i t.cancels)) k)
+    (option_or ((last-found cancelled_entry (λ _. true) t.cancelled i one.cancelled ∙ found_all cancelled_entry (row_with_id cancelled_id i t.cancelled)) k)
+    (option_or ((last-found error_entry (λ _. true) t.errorlog i one.errorlog ∙ found_all error_entry (row_with_id error_id i t.errorlog)) k)
+    ((last-found booking_entry (λ _. true) t.booking i one.booking ∙ found_all booking_entry (row_with_id booking_id i t.booking)) k))))
 
 -- ---- a change
 
@@ -242,7 +239,7 @@ board_after c t b =
 
 pub board_changed : (c : ChangeView) (before t : Tables) → t ≡ changed c before → HaveOneRowEach t → board_after c t (board_of before) ≡ board_of t
 board_changed c before t is one =
-    same_rows _ (board_of t) (in_order-anew t (map cancel_id c.cancels) b6 o6) (in_order-board t) (λ q.
+    same_rows _ (board_of t) (in_order-anew t (map cancel_id c.cancels) b6 o6) (board_in_order t) (λ q.
     row-anew t (map cancel_id c.cancels) b6 q o6 (λ f7.
     row-anew t (map cancelled_id c.cancelled) b5 q o5 (λ f6.
     row-anew t (map (λ i. i) c.uncancelled) b4 q o4 (λ f5.
@@ -265,7 +262,7 @@ board_changed c before t is one =
     b0 = board_of before
 
     o0 : IsInOrder b0
-    o0 = in_order-board before
+    o0 = board_in_order before
 
     b1 : Rows
     b1 = told_anew t (map (λ i. i) c.unbooked) b0
@@ -319,10 +316,10 @@ distinct_ids {R} key (x ∷ xs) h = (apart xs h.0, distinct_ids key xs h.1)
     apart (y ∷ ys) h = or_from (same_id (key x) (key y)) (is_among (key x) (map key ys)) (go y (same_id (key x) (key y)) refl h.0) (apart ys h.1)
 
 -- what all rows keep, the one that is found keeps
-pub found_keeps : {R : Type 0} (P : R → Type 0) (key : R → Id) (i : Id) (rows : List R) (row : R) → AllByRecursion P rows → row_of key i rows ≡ Some row → P row
+pub found_keeps : {R : Type 0} (P : R → Type 0) (key : R → Id) (i : Id) (rows : List R) (row : R) → AllByRecursion P rows → row_with_id key i rows ≡ Some row → P row
 found_keeps P key i [] row h e = absurd (let never : ⊥ = cc in never)
 found_keeps P key i (x ∷ xs) row h e = go (same_id (key x) i) e (found_keeps P key i xs row h.1)
   where
-    go : (s : Bool) → cond s (Some x) (row_of key i xs) ≡ Some row → (row_of key i xs ≡ Some row → P row) → P row
+    go : (s : Bool) → cond s (Some x) (row_with_id key i xs) ≡ Some row → (row_with_id key i xs ≡ Some row → P row) → P row
     go true f later = let one : x ≡ row = cc in subst P one h.0
     go false f later = later f

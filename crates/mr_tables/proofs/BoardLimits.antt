@@ -8,7 +8,8 @@ use Rattle.mr_model.specs.Writes.{Id, Meeting, Action, Books, Cancels, Write, id
 use Rattle.mr_model.specs.Replay.{Place, Taken, Logged, Done, Void, slot_at}
 use Rattle.mr_model.specs.Replica.{Replica, IsReplica, is_committed}
 use Rattle.mr_model.specs.View.{place_of, canceller_of}
-use Rattle.mr_model.specs.Tables.{BookingRow, ErrorRow, CancelledRow, PlaceRow, Booked, Erred, Cancelled, Cancel, as_booking, as_error, as_cancelled, booking_place_row, place_row_for, place_row, seq_of, tables_of}
+use Rattle.mr_model.specs.Tables.{BookingRow, ErrorRow, CancelledRow, PlaceRow, Booked, Erred, Cancelled, Cancel, as_booking}
+use Rattle.mr_model.specs.Tables.{as_error, as_cancelled, booking_place_row, place_row_for, place_row, seq_of, tables_of}
 use Rattle.mr_model.proofs.ChangesKeep.{within}
 use Rattle.mr_model.proofs.Members.{has_all}
 use Rattle.mr_model.proofs.RowsById.{known_write, action_within}
@@ -33,7 +34,8 @@ lasts m h =
 slot_within : (w : Write) (m : Meeting) (s : Slot) → IsTrue (is_count w.stamp.n) → IsTrue (is_meeting m) → s.start + m.length ≤ 1440 → IsRowWithin w.stamp.n s.start (s.start + m.length)
 slot_within w m s n h fits = (n, (let some : 1 ≤ m.length = lasts m h in omega (arith, some)), fits)
 
-meeting_within : (w : Write) (m : Meeting) (o : Option Slot) (by : Option Id) (mark : Bool) (seq : ℕ) → IsTrue (is_count w.stamp.n) → IsTrue (is_meeting m) → ((s : Slot) → o ≡ Some s → s.start + m.length ≤ 1440) → PlaceWithin (booking_place_row w m o by mark seq)
+meeting_within : (w : Write) (m : Meeting) (o : Option Slot) (by : Option Id) (mark : Bool) (seq : ℕ) → IsTrue (is_count w.stamp.n)
+    → IsTrue (is_meeting m) → ((s : Slot) → o ≡ Some s → s.start + m.length ≤ 1440) → PlaceWithin (booking_place_row w m o by mark seq)
 meeting_within w m None by mark seq n h fits = slot_within w m m.wish n h (choice_fits m 0 m.wish h refl)
 meeting_within w m (Some s) None mark seq n h fits = slot_within w m s n h (fits s refl)
 meeting_within w m (Some s) (Some c) mark seq n h fits = slot_within w m s n h (fits s refl)
@@ -44,11 +46,12 @@ slot_fits w m Logged s h a e = absurd (let f : ◌≡◌ {A = Option Slot} None 
 slot_fits w m Done s h a e = absurd (let f : ◌≡◌ {A = Option Slot} None (Some s) = e in let never : ⊥ = cc in never)
 slot_fits w m Void s h a e = absurd (let f : ◌≡◌ {A = Option Slot} None (Some s) = e in let never : ⊥ = cc in never)
 
-place_within : (w : Write) (a : Action) (p : Place) (by : Option Id) (mark : Bool) (seq : ℕ) → IsTrue (is_count w.stamp.n) → is_action a ≡ true → w.action ≡ a → PlaceWithin (place_row_for w a p by mark seq)
+place_within : (w : Write) (a : Action) (p : Place) (by : Option Id) (mark : Bool) (seq : ℕ)
+    → IsTrue (is_count w.stamp.n) → is_action a ≡ true → w.action ≡ a → PlaceWithin (place_row_for w a p by mark seq)
 place_within w (Books m) p by mark seq n h e = meeting_within w m (slot_at w p) by mark seq n h (λ s f. slot_fits w m p s h e f)
 place_within w (Cancels t) p by mark seq n h e = tt
 
-known_within : (r : Replica) (w : Write) → IsReplica r → Has w r.known → PlaceWithin (place_row r w)
+pub known_within : (r : Replica) (w : Write) → IsReplica r → Has w r.known → PlaceWithin (place_row r w)
 known_within r w h a =
     let ok = known_write r w h a in
     let p = and_parts (is_server w.stamp.server && is_count w.stamp.n) (is_time w.stamp.time) (within w ok).stamp in

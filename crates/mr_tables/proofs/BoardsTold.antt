@@ -11,7 +11,8 @@ use Rattle.mr_model.specs.Writes.{Id, Meeting, Action, Books, Cancels, Write, id
 use Rattle.mr_model.specs.Replay.{Place, Taken, Logged, Done, Void, slot_at}
 use Rattle.mr_model.specs.Replica.{Replica, IsReplica, committed, tentative, order_of, is_committed}
 use Rattle.mr_model.specs.View.{Told, of_room, view_of, whole_list, told_of, place_of, canceller_of}
-use Rattle.mr_model.specs.Tables.{CancelRow, PlaceRow, Booked, Erred, Cancelled, Cancel, Tables, as_booking, as_error, as_cancelled, as_cancel, booking_place_row, place_row_for, place_row, seq_of, tables_of}
+use Rattle.mr_model.specs.Tables.{CancelRow, PlaceRow, Booked, Erred, Cancelled, Cancel, Tables, as_booking, as_error}
+use Rattle.mr_model.specs.Tables.{as_cancelled, as_cancel, booking_place_row, place_row_for, place_row, seq_of, tables_of}
 use Rattle.mr_model.specs.Dropped.{Has}
 use Rattle.mr_model.specs.Laws.{Fate, fate_of}
 use Rattle.mr_model.proofs.CalendarsShow.{fates_by_order}
@@ -48,12 +49,14 @@ entry_with i (Some row) = Some (i, row)
 long : (a b : ℕ) → a + b - a ≡ b
 long a b = omega arith
 
-meeting-entry : (w : Write) (m : Meeting) (o : Option Slot) (by : Option Id) (mark : Bool) (seq : ℕ) → entry_of (booking_place_row w m o by mark seq) ≡ Some (id_of w, record { room = w.room; trace = trace_with m o by })
+meeting-entry : (w : Write) (m : Meeting) (o : Option Slot) (by : Option Id) (mark : Bool) (seq : ℕ)
+    → entry_of (booking_place_row w m o by mark seq) ≡ Some (id_of w, record { room = w.room; trace = trace_with m o by })
 meeting-entry w m None by mark seq = λ i. Some (id_of w, record { room = w.room; trace = OfBooking m.wish (long m.wish.start m.length i) m.title InErrorLog })
 meeting-entry w m (Some s) None mark seq = λ i. Some (id_of w, record { room = w.room; trace = OfBooking s (long s.start m.length i) m.title standing.Booked })
 meeting-entry w m (Some s) (Some c) mark seq = λ i. Some (id_of w, record { room = w.room; trace = OfBooking s (long s.start m.length i) m.title (CancelledBy c) })
 
-pub row-entry : (w : Write) (a : Action) (p : Place) (by : Option Id) (mark : Bool) (seq : ℕ) → entry_of (place_row_for w a p by mark seq) ≡ entry_with (id_of w) (option_map (λ k. record { room = w.room; trace = k }) (trace_for w a p by))
+pub row-entry : (w : Write) (a : Action) (p : Place) (by : Option Id) (mark : Bool) (seq : ℕ)
+    → entry_of (place_row_for w a p by mark seq) ≡ entry_with (id_of w) (option_map (λ k. record { room = w.room; trace = k }) (trace_for w a p by))
 row-entry w (Books m) p by mark seq = meeting-entry w m (slot_at w p) by mark seq
 row-entry w (Cancels t) (Taken k) by mark seq = refl
 row-entry w (Cancels t) Logged by mark seq = refl
@@ -85,8 +88,8 @@ pub entries-append : (xs ys : List (Id × Row)) (b : Rows) → put_entries (xs +
 entries-append [] ys b = refl
 entries-append (x ∷ xs) ys b = entries-append xs ys (insert_entry id_cmp b x.0 x.1)
 
-all-entries : (t : Tables) → put_entries (all_entries t) [] ≡ board_of t
-all-entries t =
+pub board-entries : (t : Tables) → put_entries (all_entries t) [] ≡ board_of t
+board-entries t =
     let bs = map booking_entry t.booking in
     let es = map error_entry t.errorlog in
     let cs = map cancelled_entry t.cancelled in
@@ -111,14 +114,16 @@ entry_known r e h = first (has_split e (map booking_entry t.booking) (map error_
         let (w, k, o) = known_of as_cancel r row b in
         (w, k, ap entry_of (cancel_is row (place_row r w) o) ∙ cond-true (is_void row) (Some (cancel_entry row)) None v ∙ ap Some (sym s))
 
-    second : Has e (map error_entry t.errorlog) ⊎ Has e (map cancelled_entry t.cancelled ++ map cancel_entry (filter is_void t.cancels)) → (w : Write) × Has w r.known × (entry_of (place_row r w) ≡ Some e)
+    second : Has e (map error_entry t.errorlog) ⊎ Has e (map cancelled_entry t.cancelled ++ map cancel_entry (filter is_void t.cancels))
+        → (w : Write) × Has w r.known × (entry_of (place_row r w) ≡ Some e)
     second (inl g) =
         let (row, a, s) = map_has error_entry e t.errorlog g in
         let (w, k, o) = known_of as_error r row a in
         (w, k, ap entry_of (erred_is row (place_row r w) o) ∙ ap Some (sym s))
     second (inr g) = third (has_split e (map cancelled_entry t.cancelled) (map cancel_entry (filter is_void t.cancels)) g)
 
-    first : Has e (map booking_entry t.booking) ⊎ Has e (map error_entry t.errorlog ++ (map cancelled_entry t.cancelled ++ map cancel_entry (filter is_void t.cancels))) → (w : Write) × Has w r.known × (entry_of (place_row r w) ≡ Some e)
+    first : Has e (map booking_entry t.booking) ⊎ Has e (map error_entry t.errorlog ++ (map cancelled_entry t.cancelled ++ map cancel_entry (filter is_void t.cancels)))
+        → (w : Write) × Has w r.known × (entry_of (place_row r w) ≡ Some e)
     first (inl g) =
         let (row, a, s) = map_has booking_entry e t.booking g in
         let (w, k, o) = known_of as_booking r row a in
@@ -147,7 +152,8 @@ known_entry r w e h k s = go (place_row r w) refl
     void : (row : CancelRow) → place_row r w ≡ Cancel row → (b : Bool) → is_void row ≡ b → cond b (Some (cancel_entry row)) None ≡ Some e → Has e (bs ++ (es ++ (cs ++ vs)))
     void row p true v f =
         has_right e bs (es ++ (cs ++ vs)) (has_right e es (cs ++ vs) (has_right e cs vs
-        (subst (λ x. Has x vs) (some_inj (cancel_entry row) e f) (has_map cancel_entry row (filter is_void t.cancels) (has_filter is_void row t.cancels v (of_known as_cancel r row h w k (ap as_cancel p)))))))
+        (subst (λ x. Has x vs) (some_inj (cancel_entry row) e f)
+        (has_map cancel_entry row (filter is_void t.cancels) (has_filter is_void row t.cancels v (of_known as_cancel r row h w k (ap as_cancel p)))))))
     void row p false v f = absurd (none_some e f)
 
     go : (q : PlaceRow) → place_row r w ≡ q → Has e (bs ++ (es ++ (cs ++ vs)))
@@ -187,7 +193,7 @@ entry_is r w e h a g k =
     parts.1 ∙ ap (known_row r) (one_known r v w h b a (parts.0 ∙ k))
 
 pub known_at : (r : Replica) (w : Write) → IsReplica r → Has w r.known → row_at (board_of (tables_of r)) (id_of w) ≡ known_row r w
-known_at r w h a = ap (λ b. row_at b (id_of w)) (sym (all-entries (tables_of r))) ∙ go (known_row r w) refl
+known_at r w h a = ap (λ b. row_at b (id_of w)) (sym (board-entries (tables_of r))) ∙ go (known_row r w) refl
   where
     go : (o : Option Row) → known_row r w ≡ o → row_at (put_entries (all_entries (tables_of r)) []) (id_of w) ≡ known_row r w
     go None k = put-keeps (known_row r w) (id_of w) (all_entries (tables_of r)) [] (λ e g s. entry_is r w e h a g s) (sym k)
@@ -197,7 +203,7 @@ known_at r w h a = ap (λ b. row_at b (id_of w)) (sym (all-entries (tables_of r)
 
 pub unknown_at : (r : Replica) (q : Id) → ((w : Write) → Has w r.known → id_of w ≡ q → ⊥) → row_at (board_of (tables_of r)) q ≡ None
 unknown_at r q f =
-    ap (λ b. row_at b q) (sym (all-entries (tables_of r)))
+    ap (λ b. row_at b q) (sym (board-entries (tables_of r)))
     ∙ put-keeps None q (all_entries (tables_of r)) [] (λ e g k. let (v, b, s) = entry_known r e g in absurd (f v b ((entry_parts r v e s).0 ∙ k))) refl
 
 -- ---- what is told of a room's list
@@ -221,7 +227,8 @@ row_in-fates i (t ∷ ts) = go (same_id (id_of t.write) i) (row_in-fates i ts)
 row-told : (r : Replica) (room : Text) (i : Id) → row_in (told_list (of_room room (order_of r))) i ≡ row_in (room_list r room) i
 row-told r room i =
     row_in-fates i (told_list (of_room room (order_of r)))
-    ∙ ap (fate_at i) (fates_by_order (record { known = true; committed = []; tentative = of_room room (order_of r) }) (view_of r room) (filter-append (λ w. bytes_eq w.room room) (committed r) (tentative r)))
+    ∙ ap (fate_at i) (fates_by_order (record { known = true; committed = []; tentative = of_room room (order_of r) })
+    (view_of r room) (filter-append (λ w. bytes_eq w.room room) (committed r) (tentative r)))
     ∙ sym (row_in-fates i (whole_list (view_of r room))) ∙ ap (λ ts. row_in ts i) (room-list r room)
 
 told_known : (r : Replica) (w : Write) → IsReplica r → Has w r.known → row_in (room_list r w.room) (id_of w) ≡ known_row r w
@@ -251,7 +258,8 @@ pub known_or_none : (i : Id) (ws : List Write) → ((w : Write) × Has w ws × (
 known_or_none i [] = inr (λ w h e. absurd h)
 known_or_none i (x ∷ xs) = go (same_id (id_of x) i) refl (known_or_none i xs)
   where
-    go : (c : Bool) → same_id (id_of x) i ≡ c → ((w : Write) × Has w xs × (id_of w ≡ i)) ⊎ ((w : Write) → Has w xs → id_of w ≡ i → ⊥) → ((w : Write) × Has w (x ∷ xs) × (id_of w ≡ i)) ⊎ ((w : Write) → Has w (x ∷ xs) → id_of w ≡ i → ⊥)
+    go : (c : Bool) → same_id (id_of x) i ≡ c → ((w : Write) × Has w xs × (id_of w ≡ i)) ⊎ ((w : Write) → Has w xs → id_of w ≡ i → ⊥)
+        → ((w : Write) × Has w (x ∷ xs) × (id_of w ≡ i)) ⊎ ((w : Write) → Has w (x ∷ xs) → id_of w ≡ i → ⊥)
     go true c rest = inl (x, inl refl, same_id-true (id_of x) i c)
     go false c (inl (w, h, e)) = inl (w, inr h, e)
     go false c (inr f) = inr each
@@ -261,7 +269,8 @@ known_or_none i (x ∷ xs) = go (same_id (id_of x) i) refl (known_or_none i xs)
         each w (inr h) e = f w h e
 
 -- a row of a room is that room's, and of no other
-own_row : (room : Text) (w : Write) (o : Option Trace) → bytes_eq w.room room ≡ true → if_of room (option_map (λ k. record { room = w.room; trace = k }) o) ≡ option_map (λ k. record { room = w.room; trace = k }) o
+own_row : (room : Text) (w : Write) (o : Option Trace) → bytes_eq w.room room ≡ true
+    → if_of room (option_map (λ k. record { room = w.room; trace = k }) o) ≡ option_map (λ k. record { room = w.room; trace = k }) o
 own_row room w None e = refl
 own_row room w (Some k) e = cond-true (bytes_eq w.room room) (Some (record { room = w.room; trace = k })) None e
 
@@ -297,6 +306,6 @@ entries_ordered (e ∷ es) b h = entries_ordered es (insert_entry id_cmp b e.0 e
 
 pub board_told : (r : Replica) → IsReplica r → Holds (order_of r) (board_of (tables_of r))
 board_told r h = record {
-  ordered = subst IsInOrder (all-entries (tables_of r)) (entries_ordered (all_entries (tables_of r)) [] Holds-empty.ordered);
+  ordered = subst IsInOrder (board-entries (tables_of r)) (entries_ordered (all_entries (tables_of r)) [] Holds-empty.ordered);
   rooms = λ room. holds_in r room h;
 }

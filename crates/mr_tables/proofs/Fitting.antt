@@ -1,17 +1,11 @@
 -- The choices of a meeting end on their day.
-use Rattle.std.proofs.Common.{◌≡◌, ℕ, ◌+◌, ◌≤◌, ◌&&◌, Bool, true, List, [], ◌∷◌, Option, Some, None, IfSome, IsTrue, inl, inr, ap, sym, ◌∙◌, leb-true}
+use Rattle.std.proofs.Common.{◌≡◌, ℕ, ◌+◌, ◌≤◌, ◌&&◌, true, Option, Some, None, IfSome, IsTrue, sym, leb-true}
 use Rattle.std.specs.List.{list_all, slice_get}
 use Rattle.std.proofs.lemmas.Bool.{and_parts}
 use Rattle.mr_model.specs.Slots.{Slot, is_slot}
 use Rattle.mr_model.specs.Writes.{Meeting, choices_of, is_meeting, fits_day}
-use Rattle.mr_model.specs.Dropped.{Has}
 use Rattle.mr_model.proofs.Members.{slice_has}
-
--- what all elements pass, each passes
-passes : {A : Type 0} (p : A → Bool) (x : A) (xs : List A) → list_all p xs ≡ true → Has x xs → p x ≡ true
-passes p x [] h a = absurd a
-passes p x (y ∷ ys) h (inl e) = ap p e ∙ (and_parts (p y) (list_all p ys) h).0
-passes p x (y ∷ ys) h (inr a) = passes p x ys (and_parts (p y) (list_all p ys) h).1 a
+use Rattle.mr_model.proofs.Lists.{list_all_at}
 
 -- all of them pass the test of slots
 pub choices_pass : (m : Meeting) → IsTrue (is_meeting m) → list_all (λ s. is_slot s && fits_day m.length s) (choices_of m) ≡ true
@@ -20,7 +14,7 @@ choices_pass m h = (and_parts _ (list_all (λ s. is_slot s && fits_day m.length 
 -- a choice of a meeting ends on its day
 pub choice_fits : (m : Meeting) (k : ℕ) (s : Slot) → IsTrue (is_meeting m) → slice_get (choices_of m) k ≡ Some s → s.start + m.length ≤ 1440
 choice_fits m k s h e =
-    let fits = and_parts (is_slot s) (fits_day m.length s) (passes (λ s. is_slot s && fits_day m.length s) s (choices_of m) (choices_pass m h) (slice_has (choices_of m) k s e)) in
+    let fits = and_parts (is_slot s) (fits_day m.length s) (list_all_at (λ s. is_slot s && fits_day m.length s) s (choices_of m) (choices_pass m h) (slice_has (choices_of m) k s e)) in
     leb-true (s.start + m.length) 1440 fits.1
 
 -- so does the choice of a number, where there is one

@@ -1,5 +1,6 @@
 -- Words and slots at the front of a text.
-use Rattle.std.proofs.Common.{◌≡◌, refl, sym, ap, ◌∙◌, subst, ℕ, suc, ◌+◌, ◌<◌, ◌≤◌, Bool, true, false, not, ◌&&◌, cond, eqb, Option, Some, None, IfSome, List, [], ◌∷◌, ◌++◌, length, take, drop, arith, leb, leb-true, le-leb, eqb-true, IsTrue, append-nil, append_assoc}
+use Rattle.std.proofs.Common.{◌≡◌, refl, sym, ap, ◌∙◌, subst, ℕ, suc, ◌+◌, ◌<◌, ◌≤◌, Bool, true, false, not, ◌&&◌, cond, eqb, Option, Some, None, IfSome}
+use Rattle.std.proofs.Common.{List, [], ◌∷◌, ◌++◌, length, take, drop, arith, leb, leb-true, le-leb, eqb-true, IsTrue, append-nil, append_assoc}
 use Rattle.std.proofs.lemmas.Bool.{and_parts, cond-false, false_from_ne_true}
 use Rattle.std.proofs.lemmas.List.{take_all, drop_all, length-append}
 use Rattle.std.specs.Prelude.{flat_map}
@@ -44,7 +45,8 @@ pub space-some : (xs : Text) → place xs < length xs → after_space xs ≡ Som
 space-some [] low = absurd (omega (arith, low))
 space-some (x ∷ xs) low = go (eqb x 32) low (space-some xs)
   where
-    go : (b : Bool) → cond (not b) (1 + place xs) 0 < suc (length xs) → (place xs < length xs → after_space xs ≡ Some (drop (place xs + 1) xs)) → cond b (Some xs) (after_space xs) ≡ Some (drop (cond (not b) (1 + place xs) 0 + 1) (x ∷ xs))
+    go : (b : Bool) → cond (not b) (1 + place xs) 0 < suc (length xs) → (place xs < length xs → after_space xs ≡ Some (drop (place xs + 1) xs))
+        → cond b (Some xs) (after_space xs) ≡ Some (drop (cond (not b) (1 + place xs) 0 + 1) (x ∷ xs))
     go true l ih = refl
     go false l ih = ih (omega (arith, l)) ∙ (let e : suc (place xs + 1) ≡ 1 + place xs + 1 = omega arith in ap (λ n. Some (drop n (x ∷ xs))) e)
 
@@ -70,7 +72,8 @@ from_some : (t r : Text) → after_space t ≡ Some r → t ≡ first_word t ++ 
 from_some [] r e = absurd (let g : ◌≡◌ {A = Option Text} None (Some r) = e in let never : ⊥ = cc in never)
 from_some (c ∷ cs) r e = go (eqb c 32) refl e (from_some cs r)
   where
-    go : (b : Bool) → eqb c 32 ≡ b → ◌≡◌ {A = Option Text} (cond b (Some cs) (after_space cs)) (Some r) → (after_space cs ≡ Some r → cs ≡ first_word cs ++ 32 ∷ r) → c ∷ cs ≡ cond b [] (c ∷ first_word cs) ++ 32 ∷ r
+    go : (b : Bool) → eqb c 32 ≡ b → ◌≡◌ {A = Option Text} (cond b (Some cs) (after_space cs)) (Some r)
+        → (after_space cs ≡ Some r → cs ≡ first_word cs ++ 32 ∷ r) → c ∷ cs ≡ cond b [] (c ∷ first_word cs) ++ 32 ∷ r
     go true h f ih = let same : cs ≡ r = some_inj cs r f in λ i. eqb-true c 32 h i ∷ same i
     go false h f ih = ap (λ (t : Text). c ∷ t) (ih f)
 
@@ -110,7 +113,8 @@ pub record IsFirstSlot (s : Slot) (ss : List Slot) (day time : Text) (rest : Opt
   pub is_day : IsTrue (is_date s.day)
   pub is_time : s.start < 1440
 
-pub first_slot : (text day behind time : Text) (rest : Option Text) (s : Slot) (ss : List Slot) → IsTextOf text (s ∷ ss) → day ≡ first_word text → Some behind ≡ after_space text → time ≡ first_word behind → rest ≡ after_space behind → IsFirstSlot s ss day time rest
+pub first_slot : (text day behind time : Text) (rest : Option Text) (s : Slot) (ss : List Slot) → IsTextOf text (s ∷ ss) → day ≡ first_word text
+    → Some behind ≡ after_space text → time ≡ first_word behind → rest ≡ after_space behind → IsFirstSlot s ss day time rest
 first_slot text day behind time rest s ss h d b t r =
     let two : behind ≡ words (time_text s.start ∷ flat_map slot_words ss) = some_inj _ _ (b ∙ ap after_space h.text_is ∙ time_behind s ss) in
     let p = and_parts (is_date s.day) (leb s.start 1439) h.slots.0 in
@@ -125,10 +129,14 @@ first_slot text day behind time rest s ss h d b t r =
 
 -- a text of slots has a space
 pub has_space : (text : Text) (s : Slot) (ss : List Slot) → IsTextOf text (s ∷ ss) → None ≡ after_space text → ⊥
-has_space text s ss h e = let f : ◌≡◌ {A = Option Text} None (Some (words (time_text s.start ∷ flat_map slot_words ss))) = e ∙ ap after_space h.text_is ∙ time_behind s ss in let never : ⊥ = cc in never
+has_space text s ss h e =
+    let f : ◌≡◌ {A = Option Text} None (Some (words (time_text s.start ∷ flat_map slot_words ss))) = e ∙ ap after_space h.text_is ∙ time_behind s ss in
+    let never : ⊥ = cc in
+    never
 
 -- what is read as a slot, and then as others, is the text of them
-pub slot_told : (text behind time : Text) (rest : Option Text) (s : Slot) (ss : List Slot) → first_word text ≡ date_text s.day → Some behind ≡ after_space text → first_word behind ≡ time_text s.start → rest ≡ after_space behind → IsTrue (is_date s.day) → s.start < 1440 → IsRestOf rest ss → IsTextOf text (s ∷ ss)
+pub slot_told : (text behind time : Text) (rest : Option Text) (s : Slot) (ss : List Slot) → first_word text ≡ date_text s.day → Some behind ≡ after_space text
+    → first_word behind ≡ time_text s.start → rest ≡ after_space behind → IsTrue (is_date s.day) → s.start < 1440 → IsRestOf rest ss → IsTextOf text (s ∷ ss)
 slot_told text behind time rest s ss day b time_is r is_day low h =
     record {
       slots = ((let early : s.start ≤ 1439 = omega (arith, low) in λ i. is_day i && le-leb s.start 1439 early i), h.slots);
@@ -163,7 +171,8 @@ pub behind_one : (ss read others : List Slot) (s slot : Slot) (behind : Option T
 behind_one ss read others s slot behind e p t = (others, e ∙ ap (λ x. read ++ x ∷ others) (sym p) ∙ sym (append_assoc read (slot ∷ []) others), t)
 
 -- what was read so far, this slot, and the slots that are left, are those of the text
-pub told_one : (text rest behind : Option Text) (t : Text) (read : List Slot) (slot : Slot) (left : List Slot) → rest ≡ Some t → ((left : List Slot) → IsRestOf rest left → IsRestOf text (read ++ left)) → IsTextOf t (slot ∷ left) → IsRestOf text ((read ++ slot ∷ []) ++ left)
+pub told_one : (text rest behind : Option Text) (t : Text) (read : List Slot) (slot : Slot) (left : List Slot) → rest ≡ Some t
+    → ((left : List Slot) → IsRestOf rest left → IsRestOf text (read ++ left)) → IsTextOf t (slot ∷ left) → IsRestOf text ((read ++ slot ∷ []) ++ left)
 told_one text rest behind t read slot left e told h =
     subst (IsRestOf text) (sym (append_assoc read (slot ∷ []) left)) (told (slot ∷ left) (record { slots = h.slots; rest_is = e ∙ ap Some h.text_is }))
 

@@ -18,7 +18,8 @@ pub text_of_meeting : (m : Meeting) (text : Text) → IsTrue (is_meeting m) → 
 text_of_meeting m text ok e = record { slots = slots_all m.length (choices_of m) (choices_pass m ok); text_is = e }
 
 -- the meeting with these cells and choices
-pub meeting_again : (m : Meeting) (cells : MeetingCells) (wish : Slot) (others : List Slot) → cells ≡ meeting_cells m → wish ≡ m.wish → others ≡ m.alternatives → record { title = cells.title; length = cells.length; wish = wish; alternatives = others } ≡ m
+pub meeting_again : (m : Meeting) (cells : MeetingCells) (wish : Slot) (others : List Slot) → cells ≡ meeting_cells m → wish ≡ m.wish
+    → others ≡ m.alternatives → record { title = cells.title; length = cells.length; wish = wish; alternatives = others } ≡ m
 meeting_again m cells wish others e w o = λ i. record { title = (e i).title; length = (e i).length; wish = w i; alternatives = o i }
 
 -- ---- the parts of a row
@@ -55,7 +56,8 @@ meeting_within w m ok e =
     subst (λ (a : Action). IsTrue (is_action a)) e (and_parts (is_stamp w.stamp && is_room_name w.room) (is_action w.action) ok).1
 
 -- the write with these parts
-pub again : (w : Write) (place : Place) (seq : ℕ) (row : LogRow) (stamp : Stamp) (action : Action) → row ≡ log_row_with w place seq → stamp ≡ w.stamp → w.action ≡ action → record { stamp = stamp; room = row.room; action = action } ≡ w
+pub again : (w : Write) (place : Place) (seq : ℕ) (row : LogRow) (stamp : Stamp) (action : Action) → row ≡ log_row_with w place seq
+    → stamp ≡ w.stamp → w.action ≡ action → record { stamp = stamp; room = row.room; action = action } ≡ w
 again w place seq row stamp action e s a = λ i. record { stamp = s i; room = (e i).room; action = sym a i }
 
 -- ---- answers where memory may be wanting

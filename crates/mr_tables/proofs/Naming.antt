@@ -19,7 +19,8 @@ before-cmp (c ∷ cs) (d ∷ ds) = go (nat_lt c d) refl (c == d) refl (before-cm
     at : (o : Ordering) → o ≡ nat_cmp c d → is_lt (ordering_then (nat_cmp c d) (slice_cmp nat_cmp cs ds)) ≡ is_lt (ordering_then o (slice_cmp nat_cmp cs ds))
     at o e = ap (λ x. is_lt (ordering_then x (slice_cmp nat_cmp cs ds))) (sym e)
 
-    go : (b : Bool) → nat_lt c d ≡ b → (e : Bool) → (c == d) ≡ e → is_lt (slice_cmp nat_cmp cs ds) ≡ text_before cs ds → is_lt (ordering_then (nat_cmp c d) (slice_cmp nat_cmp cs ds)) ≡ (nat_lt c d || (c == d && text_before cs ds))
+    go : (b : Bool) → nat_lt c d ≡ b → (e : Bool) → (c == d) ≡ e → is_lt (slice_cmp nat_cmp cs ds) ≡ text_before cs ds
+        → is_lt (ordering_then (nat_cmp c d) (slice_cmp nat_cmp cs ds)) ≡ (nat_lt c d || (c == d && text_before cs ds))
     go true p e q rest = at Less (nat_cmp_is c d Less (grind (arith, nat_tests))) ∙ ap (λ x. x || (c == d && text_before cs ds)) (sym p)
     go false p true q rest = at Equal (nat_cmp_is c d Equal (grind (arith, nat_tests))) ∙ rest ∙ (λ i. sym p i || (sym q i && text_before cs ds))
     go false p false q rest = at Greater (nat_cmp_is c d Greater (grind (arith, nat_tests))) ∙ (λ i. sym p i || (sym q i && text_before cs ds))

@@ -14,7 +14,8 @@ Lacks {R} key k rows = (y : R) → Has y rows → key y ≡ k → ⊥
 
 -- ---- one row
 
-pub put_has : {R K : Type 0} (before : K → K → Bool) (key : R → K) (o : IsOrder K before) (row x : R) (rows : List R) → InOrder before key rows → Has row (put before key x rows) → (row ≡ x) ⊎ (Has row rows × (key row ≡ key x → ⊥))
+pub put_has : {R K : Type 0} (before : K → K → Bool) (key : R → K) (o : IsOrder K before) (row x : R) (rows : List R)
+    → InOrder before key rows → Has row (put before key x rows) → (row ≡ x) ⊎ (Has row rows × (key row ≡ key x → ⊥))
 put_has before key o row x [] s (inl e) = inl e
 put_has before key o row x [] s (inr h) = absurd h
 put_has {R} {K} before key o row x (y ∷ ys) s h = go (before (key x) (key y)) refl (before (key y) (key x)) refl h (put_has before key o row x ys s.1)
@@ -30,15 +31,18 @@ put_has {R} {K} before key o row x (y ∷ ys) s h = go (before (key x) (key y)) 
     rest (inl e) = inl e
     rest (inr p) = inr (inr p.0, p.1)
 
-    go : (b : Bool) → before (key x) (key y) ≡ b → (c : Bool) → before (key y) (key x) ≡ c → Has row (cond b (x ∷ y ∷ ys) (cond c (y ∷ put before key x ys) (x ∷ ys))) → (Has row (put before key x ys) → (row ≡ x) ⊎ (Has row ys × (key row ≡ key x → ⊥))) → (row ≡ x) ⊎ (Has row (y ∷ ys) × (key row ≡ key x → ⊥))
+    go : (b : Bool) → before (key x) (key y) ≡ b → (c : Bool) → before (key y) (key x) ≡ c → Has row (cond b (x ∷ y ∷ ys) (cond c (y ∷ put before key x ys) (x ∷ ys)))
+        → (Has row (put before key x ys) → (row ≡ x) ⊎ (Has row ys × (key row ≡ key x → ⊥))) → (row ≡ x) ⊎ (Has row (y ∷ ys) × (key row ≡ key x → ⊥))
     go true b c d (inl e) ih = inl e
     go true b c d (inr g) ih = inr (g, later row (behind row b g))
     go false b true d (inl e) ih = inr (inl e, λ k. o.irreflexive (key x) (subst (λ u. before u (key x) ≡ true) (ap key (sym e) ∙ k) d))
     go false b true d (inr g) ih = rest (ih g)
     go false b false d (inl e) ih = inl e
-    go false b false d (inr g) ih = inr (inr g, λ k. o.irreflexive (key y) (subst (λ u. before (key y) u ≡ true) (k ∙ o.total (key x) (key y) b d) (all_has (λ u. before (key y) (key u) ≡ true) row ys s.0 g)))
+    go false b false d (inr g) ih =
+        inr (inr g, λ k. o.irreflexive (key y) (subst (λ u. before (key y) u ≡ true) (k ∙ o.total (key x) (key y) b d) (all_has (λ u. before (key y) (key u) ≡ true) row ys s.0 g)))
 
-pub has_put : {R K : Type 0} (before : K → K → Bool) (key : R → K) (o : IsOrder K before) (row x : R) (rows : List R) → (row ≡ x) ⊎ (Has row rows × (key row ≡ key x → ⊥)) → Has row (put before key x rows)
+pub has_put : {R K : Type 0} (before : K → K → Bool) (key : R → K) (o : IsOrder K before) (row x : R) (rows : List R)
+    → (row ≡ x) ⊎ (Has row rows × (key row ≡ key x → ⊥)) → Has row (put before key x rows)
 has_put before key o row x [] (inl e) = inl e
 has_put before key o row x [] (inr p) = absurd p.0
 has_put {R} {K} before key o row x (y ∷ ys) h = go (before (key x) (key y)) refl (before (key y) (key x)) refl h (has_put before key o row x ys)
@@ -52,7 +56,8 @@ has_put {R} {K} before key o row x (y ∷ ys) h = go (before (key x) (key y)) re
     step ih (inl e) = inl e
     step ih (inr p) = inr (ih p)
 
-    go : (b : Bool) → before (key x) (key y) ≡ b → (c : Bool) → before (key y) (key x) ≡ c → (row ≡ x) ⊎ (Has row (y ∷ ys) × (key row ≡ key x → ⊥)) → ((row ≡ x) ⊎ (Has row ys × (key row ≡ key x → ⊥)) → Has row (put before key x ys)) → Has row (cond b (x ∷ y ∷ ys) (cond c (y ∷ put before key x ys) (x ∷ ys)))
+    go : (b : Bool) → before (key x) (key y) ≡ b → (c : Bool) → before (key y) (key x) ≡ c → (row ≡ x) ⊎ (Has row (y ∷ ys) × (key row ≡ key x → ⊥))
+        → ((row ≡ x) ⊎ (Has row ys × (key row ≡ key x → ⊥)) → Has row (put before key x ys)) → Has row (cond b (x ∷ y ∷ ys) (cond c (y ∷ put before key x ys) (x ∷ ys)))
     go true b c d (inl e) ih = inl e
     go true b c d (inr p) ih = inr p.0
     go false b true d p ih = step ih (rest p)
@@ -68,10 +73,14 @@ put_in_order {R} {K} before key o x (y ∷ ys) s = go (before (key x) (key y)) r
     other z d (inl e) = subst (λ u. before (key y) (key u) ≡ true) (sym e) d
     other z d (inr p) = all_has (λ u. before (key y) (key u) ≡ true) z ys s.0 p.0
 
-    go : (b : Bool) → before (key x) (key y) ≡ b → (c : Bool) → before (key y) (key x) ≡ c → InOrder before key (put before key x ys) → InOrder before key (cond b (x ∷ y ∷ ys) (cond c (y ∷ put before key x ys) (x ∷ ys)))
+    go : (b : Bool) → before (key x) (key y) ≡ b → (c : Bool) → before (key y) (key x) ≡ c → InOrder before key (put before key x ys)
+        → InOrder before key (cond b (x ∷ y ∷ ys) (cond c (y ∷ put before key x ys) (x ∷ ys)))
     go true b c d r = ((b, has_all (λ u. before (key x) (key u) ≡ true) ys (λ z g. o.transitive (key x) (key y) (key z) b (all_has (λ u. before (key y) (key u) ≡ true) z ys s.0 g))), s)
     go false b true d r = (has_all (λ u. before (key y) (key u) ≡ true) (put before key x ys) (λ z g. other z d (put_has before key o z x ys s.1 g)), r)
-    go false b false d r = (has_all (λ u. before (key x) (key u) ≡ true) ys (λ z g. subst (λ k. before k (key z) ≡ true) (sym (o.total (key x) (key y) b d)) (all_has (λ u. before (key y) (key u) ≡ true) z ys s.0 g)), s.1)
+    go false b false d r = (
+      has_all (λ u. before (key x) (key u) ≡ true) ys (λ z g. subst (λ k. before k (key z) ≡ true) (sym (o.total (key x) (key y) b d)) (all_has (λ u. before (key y) (key u) ≡ true) z ys s.0 g)),
+      s.1,
+    )
 
 -- ---- rows one after the other
 
@@ -79,7 +88,8 @@ pub put_all_in_order : {R K : Type 0} (before : K → K → Bool) (key : R → K
 put_all_in_order before key o [] rows s = s
 put_all_in_order before key o (x ∷ xs) rows s = put_all_in_order before key o xs (put before key x rows) (put_in_order before key o x rows s)
 
-pub put_all_has : {R K : Type 0} (before : K → K → Bool) (key : R → K) (o : IsOrder K before) (row : R) (xs rows : List R) → InOrder before key rows → Has row (put_all before key xs rows) → Has row xs ⊎ (Has row rows × Lacks key (key row) xs)
+pub put_all_has : {R K : Type 0} (before : K → K → Bool) (key : R → K) (o : IsOrder K before) (row : R) (xs rows : List R)
+    → InOrder before key rows → Has row (put_all before key xs rows) → Has row xs ⊎ (Has row rows × Lacks key (key row) xs)
 put_all_has before key o row [] rows s h = inr (h, λ y g k. absurd g)
 put_all_has {R} {K} before key o row (x ∷ xs) rows s h = go (put_all_has before key o row xs (put before key x rows) (put_in_order before key o x rows s) h)
   where
@@ -95,7 +105,8 @@ put_all_has {R} {K} before key o row (x ∷ xs) rows s h = go (put_all_has befor
     go (inl g) = inl (inr g)
     go (inr p) = more p.1 (put_has before key o row x rows s p.0)
 
-pub old_has_put_all : {R K : Type 0} (before : K → K → Bool) (key : R → K) (o : IsOrder K before) (row : R) (xs rows : List R) → Has row rows → Lacks key (key row) xs → Has row (put_all before key xs rows)
+pub old_has_put_all : {R K : Type 0} (before : K → K → Bool) (key : R → K) (o : IsOrder K before) (row : R) (xs rows : List R)
+    → Has row rows → Lacks key (key row) xs → Has row (put_all before key xs rows)
 old_has_put_all before key o row [] rows h f = h
 old_has_put_all before key o row (x ∷ xs) rows h f =
     old_has_put_all before key o row xs (put before key x rows) (has_put before key o row x rows (inr (h, λ k. f x (inl refl) (sym k)))) (λ y g. f y (inr g))
@@ -127,14 +138,16 @@ new_has_put_all before key o row (x ∷ xs) rows f (inr g) = new_has_put_all bef
 
 -- ---- a table is told by its rows
 
-pub in_order_same : {R K : Type 0} (before : K → K → Bool) (key : R → K) (o : IsOrder K before) (xs ys : List R) → InOrder before key xs → InOrder before key ys → ((row : R) → Has row xs → Has row ys) → ((row : R) → Has row ys → Has row xs) → xs ≡ ys
+pub in_order_same : {R K : Type 0} (before : K → K → Bool) (key : R → K) (o : IsOrder K before) (xs ys : List R) → InOrder before key xs
+    → InOrder before key ys → ((row : R) → Has row xs → Has row ys) → ((row : R) → Has row ys → Has row xs) → xs ≡ ys
 in_order_same before key o xs ys s t f g =
     sorted_same (λ x y. before (key x) (key y) ≡ true) (λ x. o.irreflexive (key x)) (λ x y z. o.transitive (key x) (key y) (key z)) xs ys s t f g
 
 pub one_a_key : {R K : Type 0} (before : K → K → Bool) (key : R → K) (o : IsOrder K before) (rows : List R) → InOrder before key rows → OneAKey key rows
 one_a_key before key o [] s x y a b k = absurd a
 one_a_key before key o (z ∷ zs) s x y (inl p) (inl q) k = p ∙ sym q
-one_a_key before key o (z ∷ zs) s x y (inl p) (inr b) k = absurd (o.irreflexive (key z) (subst (λ u. before (key z) u ≡ true) (sym k ∙ ap key p) (all_has (λ u. before (key z) (key u) ≡ true) y zs s.0 b)))
+one_a_key before key o (z ∷ zs) s x y (inl p) (inr b) k =
+    absurd (o.irreflexive (key z) (subst (λ u. before (key z) u ≡ true) (sym k ∙ ap key p) (all_has (λ u. before (key z) (key u) ≡ true) y zs s.0 b)))
 one_a_key before key o (z ∷ zs) s x y (inr a) (inl q) k = absurd (o.irreflexive (key z) (subst (λ u. before (key z) u ≡ true) (k ∙ ap key q) (all_has (λ u. before (key z) (key u) ≡ true) x zs s.0 a)))
 one_a_key before key o (z ∷ zs) s x y (inr a) (inr b) k = one_a_key before key o zs s.1 x y a b k
 
@@ -157,7 +170,9 @@ key_or_lacks {R} {K} before key o k (x ∷ xs) = go (before (key x) k) refl (bef
 
 -- putting rows makes a table of an old one, where these are rows of it, and so are all old rows but those with their keys, and it has
 -- no others
-pub puts_make : {R K : Type 0} (before : K → K → Bool) (key : R → K) (o : IsOrder K before) (xs old new : List R) → InOrder before key old → InOrder before key new → ((row : R) → Has row xs → Has row new) → ((row : R) → Has row old → Lacks key (key row) xs → Has row new) → ((row : R) → Has row new → Has row xs ⊎ Has row old) → put_all before key xs old ≡ new
+pub puts_make : {R K : Type 0} (before : K → K → Bool) (key : R → K) (o : IsOrder K before) (xs old new : List R) → InOrder before key old
+    → InOrder before key new → ((row : R) → Has row xs → Has row new) → ((row : R) → Has row old → Lacks key (key row) xs → Has row new)
+    → ((row : R) → Has row new → Has row xs ⊎ Has row old) → put_all before key xs old ≡ new
 puts_make {R} before key o xs old new s t f g h =
     in_order_same before key o (put_all before key xs old) new (put_all_in_order before key o xs old s) t
     (λ row a. there row (put_all_has before key o row xs old s a))
@@ -184,6 +199,11 @@ puts_make {R} before key o xs old new s t f g h =
 
 -- ---- rows taken away
 
+-- none taken away
+pub without_none : {R : Type 0} (key : R → Id) (rows : List R) → rows_without key [] rows ≡ rows
+without_none key [] = refl
+without_none key (row ∷ rows) = ap (λ more. row ∷ more) (without_none key rows)
+
 pub without_has : {R : Type 0} (key : R → Id) (gone : List Id) (row : R) (rows : List R) → Has row (rows_without key gone rows) → Has row rows × (Has (key row) gone → ⊥)
 without_has key gone row rows h =
     let p = filter_has (λ r. not (is_among (key r) gone)) row rows h in
@@ -193,7 +213,9 @@ pub has_without : {R : Type 0} (key : R → Id) (gone : List Id) (row : R) (rows
 has_without key gone row rows h f = has_filter (λ r. not (is_among (key r) gone)) row rows (ap not (not_among (key row) gone f)) h
 
 -- the same where rows are taken away first
-pub change_makes : {R : Type 0} (key : R → Id) (gone : List Id) (xs old new : List R) → InOrder id_before key old → InOrder id_before key new → ((row : R) → Has row xs → Has row new) → ((row : R) → Has row old → Lacks key (key row) xs → (Has (key row) gone → ⊥) → Has row new) → ((row : R) → Has row new → Has row xs ⊎ (Has row old × (Has (key row) gone → ⊥))) → put_all id_before key xs (rows_without key gone old) ≡ new
+pub change_makes : {R : Type 0} (key : R → Id) (gone : List Id) (xs old new : List R) → InOrder id_before key old → InOrder id_before key new
+    → ((row : R) → Has row xs → Has row new) → ((row : R) → Has row old → Lacks key (key row) xs → (Has (key row) gone → ⊥) → Has row new)
+    → ((row : R) → Has row new → Has row xs ⊎ (Has row old × (Has (key row) gone → ⊥))) → put_all id_before key xs (rows_without key gone old) ≡ new
 change_makes {R} key gone xs old new s t f g h =
     puts_make id_before key id_order xs (rows_without key gone old) new
     (sorted_filter (λ x y. id_before (key x) (key y) ≡ true) (λ row. not (is_among (key row) gone)) old s) t f

@@ -21,7 +21,8 @@ both {a} {b} f g = (λ t. let p = and_parts a b t in (f.0 p.0, g.0 p.1), λ p. a
 -- ---- the order of a table
 
 -- rows that rise from each to the next are in order
-pub rise_in_order : {R K : Type 0} (before : K → K → Bool) (key : R → K) (o : IsOrder K before) (rows : List R) → ((k : ℕ) (d : R) → k + 1 < length rows → before (key (slice_index_or rows k d)) (key (slice_index_or rows (k + 1) d)) ≡ true) → InOrder before key rows
+pub rise_in_order : {R K : Type 0} (before : K → K → Bool) (key : R → K) (o : IsOrder K before) (rows : List R)
+    → ((k : ℕ) (d : R) → k + 1 < length rows → before (key (slice_index_or rows k d)) (key (slice_index_or rows (k + 1) d)) ≡ true) → InOrder before key rows
 rise_in_order before key o [] rise = tt
 rise_in_order {R} {K} before key o (x ∷ rows) rise =
     let later = rise_in_order before key o rows

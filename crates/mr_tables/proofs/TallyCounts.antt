@@ -11,7 +11,9 @@ pub counts_in-append : (ts : List Tally) (xs ys : List ℕ) → counts_in ts (xs
 counts_in-append ts [] ys = refl
 counts_in-append ts (x ∷ xs) ys = go ((tally_at ts x).count == 0) (counts_in-append ts xs ys)
   where
-    go : (b : Bool) → counts_in ts (xs ++ ys) ≡ counts_in ts xs ++ counts_in ts ys → cond b (counts_in ts (xs ++ ys)) (record { server = x; count = (tally_at ts x).count } ∷ counts_in ts (xs ++ ys)) ≡ cond b (counts_in ts xs) (record { server = x; count = (tally_at ts x).count } ∷ counts_in ts xs) ++ counts_in ts ys
+    go : (b : Bool) → counts_in ts (xs ++ ys) ≡ counts_in ts xs ++ counts_in ts ys
+        → cond b (counts_in ts (xs ++ ys)) (record { server = x; count = (tally_at ts x).count } ∷ counts_in ts (xs ++ ys))
+        ≡ cond b (counts_in ts xs) (record { server = x; count = (tally_at ts x).count } ∷ counts_in ts xs) ++ counts_in ts ys
     go true e = e
     go false e = ap (λ cs. record { server = x; count = (tally_at ts x).count } ∷ cs) e
 

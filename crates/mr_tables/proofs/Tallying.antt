@@ -1,5 +1,6 @@
 -- The tallies that the vector of a replica tells are its own.
-use Rattle.std.proofs.Common.{◌≡◌, refl, sym, ap, ◌∙◌, ℕ, zero, suc, ◌+◌, ◌<◌, ◌≤◌, Bool, true, false, cond, eqb, List, [], ◌∷◌, ◌++◌, length, get_or, take, map, ◌⊎◌, inl, inr, arith, eq-eqb, eqb-true, leb, leb-true, IsTrue, ◌≢◌}
+use Rattle.std.proofs.Common.{◌≡◌, refl, sym, ap, ◌∙◌, ℕ, zero, suc, ◌+◌, ◌<◌, ◌≤◌, Bool, true, false, cond, eqb, List, [], ◌∷◌}
+use Rattle.std.proofs.Common.{◌++◌, length, get_or, take, map, ◌⊎◌, inl, inr, arith, eq-eqb, eqb-true, leb, leb-true, IsTrue, ◌≢◌}
 use Rattle.std.proofs.lemmas.Bool.{true≢false, and_parts, cond-true, cond-false, false_from_ne_true, cases_eq}
 use Rattle.std.proofs.lemmas.List.{take_more}
 use Rattle.std.specs.Prelude.{flat_map, slice_set}
@@ -35,7 +36,8 @@ before_rows : (a : Replica) (k n s : ℕ) (f : ℕ → Tally) → s < k → tall
 before_rows a k zero s f l = refl
 before_rows a k (suc n) s f l = go (eqb (count_of a k) 0) (λ g. before_rows a (k + 1) n s g (omega (arith, l)))
   where
-    go : (b : Bool) → ((g : ℕ → Tally) → tallied (flat_map (vector_row a) (numbers_on (k + 1) n)) g s ≡ g s) → tallied (cond b [] (vector_entry a k ∷ []) ++ flat_map (vector_row a) (numbers_on (k + 1) n)) f s ≡ f s
+    go : (b : Bool) → ((g : ℕ → Tally) → tallied (flat_map (vector_row a) (numbers_on (k + 1) n)) g s ≡ g s)
+        → tallied (cond b [] (vector_entry a k ∷ []) ++ flat_map (vector_row a) (numbers_on (k + 1) n)) f s ≡ f s
     go true ih = ih f
     go false ih =
         ih (λ t. cond (eqb t k) (tally_of a k) (f t))
@@ -45,7 +47,9 @@ all_rows : (a : Replica) (k n s : ℕ) (f : ℕ → Tally) → IsReplica a → k
 all_rows a k zero s f h low high e = absurd (omega (arith, low, high))
 all_rows a k (suc n) s f h low high e = go (cases_eq s k) (eqb (count_of a k) 0) refl (λ g m. all_rows a (k + 1) n s g h m (omega (arith, high)))
   where
-    go : (s ≡ k) ⊎ (s ≡ k → ⊥) → (b : Bool) → eqb (count_of a k) 0 ≡ b → ((g : ℕ → Tally) → k + 1 ≤ s → g s ≡ no_tally → tallied (flat_map (vector_row a) (numbers_on (k + 1) n)) g s ≡ tally_of a s) → tallied (cond b [] (vector_entry a k ∷ []) ++ flat_map (vector_row a) (numbers_on (k + 1) n)) f s ≡ tally_of a s
+    go : (s ≡ k) ⊎ (s ≡ k → ⊥) → (b : Bool) → eqb (count_of a k) 0 ≡ b
+        → ((g : ℕ → Tally) → k + 1 ≤ s → g s ≡ no_tally → tallied (flat_map (vector_row a) (numbers_on (k + 1) n)) g s ≡ tally_of a s)
+        → tallied (cond b [] (vector_entry a k ∷ []) ++ flat_map (vector_row a) (numbers_on (k + 1) n)) f s ≡ tally_of a s
     go (inl same) true z ih =
         before_rows a (k + 1) n s f (omega (arith, same)) ∙ e
         ∙ sym (nothing a s h (ap (count_of a) same ∙ eqb-true (count_of a k) 0 z))
@@ -78,7 +82,8 @@ vector_tells a h = map_alike (tallied (tables_of a).vector (λ s. no_tally)) (ta
     go s m (inr other) = all_rows a 1 99 s (λ t. no_tally) h (omega (arith, other)) (omega (arith, m)) refl
 
 -- one row more of a list is noted
-pub note_one : (rows : List VectorRow) (k : ℕ) (row : VectorRow) (f : ℕ → Tally) (ts : List Tally) → k < length rows → row ≡ get_or rows k row → ts ≡ map (tallied (take k rows) f) (numbers_on 0 100) → row.server < 100 → slice_set ts row.server (row_tally row) ≡ map (tallied (take (k + 1) rows) f) (numbers_on 0 100)
+pub note_one : (rows : List VectorRow) (k : ℕ) (row : VectorRow) (f : ℕ → Tally) (ts : List Tally) → k < length rows → row ≡ get_or rows k row
+    → ts ≡ map (tallied (take k rows) f) (numbers_on 0 100) → row.server < 100 → slice_set ts row.server (row_tally row) ≡ map (tallied (take (k + 1) rows) f) (numbers_on 0 100)
 note_one rows k row f ts low at e small =
     ap (λ x. slice_set x row.server (row_tally row)) e
     ∙ set_numbered (tallied (take k rows) f) (tallied (take k rows ++ row ∷ []) f) 0 100 row.server (row_tally row) here other small
@@ -88,10 +93,12 @@ note_one rows k row f ts low at e small =
     zero_first = omega arith
 
     here : row_tally row ≡ tallied (take k rows ++ row ∷ []) f (0 + row.server)
-    here = sym (tallied-push (take k rows) row f (0 + row.server) ∙ cond-true (eqb (0 + row.server) row.server) (row_tally row) (tallied (take k rows) f (0 + row.server)) (eq-eqb (0 + row.server) row.server zero_first))
+    here = sym (tallied-push (take k rows) row f (0 + row.server)
+        ∙ cond-true (eqb (0 + row.server) row.server) (row_tally row) (tallied (take k rows) f (0 + row.server)) (eq-eqb (0 + row.server) row.server zero_first))
 
     other : (j : ℕ) → j ≢ 0 + row.server → tallied (take k rows) f j ≡ tallied (take k rows ++ row ∷ []) f j
-    other j ne = sym (tallied-push (take k rows) row f j ∙ cond-false (eqb j row.server) (row_tally row) (tallied (take k rows) f j) (false_from_ne_true (eqb j row.server) (λ b. ne (eqb-true j row.server b ∙ sym zero_first))))
+    other j ne = sym (tallied-push (take k rows) row f j
+        ∙ cond-false (eqb j row.server) (row_tally row) (tallied (take k rows) f j) (false_from_ne_true (eqb j row.server) (λ b. ne (eqb-true j row.server b ∙ sym zero_first))))
 
 pub server_small : (n : ℕ) → IsTrue (is_server n) → n < 100
 server_small n h = let high : n ≤ 99 = leb-true n 99 (and_parts (leb 1 n) (leb n 99) h).1 in omega (arith, high)

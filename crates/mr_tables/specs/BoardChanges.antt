@@ -14,8 +14,8 @@ use Rattle.mr_replay.specs.Holds.{AreDistinct}
 use Rattle.mr_tables.specs.Boards.{booking_entry, error_entry, cancelled_entry, cancel_entry, is_void}
 
 -- the row of an id in one table
-abbrev pub row_of : {R : Type 0} → (R → Id) → Id → List R → Option R
-row_of key i rows = find (λ row. same_id (key row) i) rows
+abbrev pub row_with_id : {R : Type 0} → (R → Id) → Id → List R → Option R
+row_with_id key i rows = find (λ row. same_id (key row) i) rows
 
 -- no id stands twice in a table that tells a board
 pub record HaveOneRowEach (t : Tables) : Type 0 where
@@ -35,9 +35,9 @@ cancel_told (Some row) = void_told row
 
 abbrev pub row_told : Tables → Id → Option Row
 row_told t i =
-    option_or (cancel_told (row_of cancel_id i t.cancels))
-    (option_or (option_map (λ row. (cancelled_entry row).1) (row_of cancelled_id i t.cancelled))
-    (option_or (option_map (λ row. (error_entry row).1) (row_of error_id i t.errorlog)) (option_map (λ row. (booking_entry row).1) (row_of booking_id i t.booking))))
+    option_or (cancel_told (row_with_id cancel_id i t.cancels))
+    (option_or (option_map (λ row. (cancelled_entry row).1) (row_with_id cancelled_id i t.cancelled))
+    (option_or (option_map (λ row. (error_entry row).1) (row_with_id error_id i t.errorlog)) (option_map (λ row. (booking_entry row).1) (row_with_id booking_id i t.booking))))
 
 -- the board with this row under an id, or with none
 abbrev pub with_told : Rows → Id → Option Row → Rows

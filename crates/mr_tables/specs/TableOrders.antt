@@ -32,7 +32,8 @@ id_before-true a b h = go (or_cases (ltb a.server b.server) (eqb a.server b.serv
 
 pub id_before_from : (a b : Id) → IdBefore a b → id_before a b ≡ true
 id_before_from a b (inl l) = or_left (ltb a.server b.server) (eqb a.server b.server && ltb a.n b.n) (lt-ltb a.server b.server l)
-id_before_from a b (inr p) = or_right (ltb a.server b.server) (eqb a.server b.server && ltb a.n b.n) (and_from (eqb a.server b.server) (ltb a.n b.n) (eq-eqb a.server b.server p.0) (lt-ltb a.n b.n p.1))
+id_before_from a b (inr p) =
+    or_right (ltb a.server b.server) (eqb a.server b.server && ltb a.n b.n) (and_from (eqb a.server b.server) (ltb a.n b.n) (eq-eqb a.server b.server p.0) (lt-ltb a.n b.n p.1))
 
 pub id_order : IsOrder Id id_before
 id_order = record { irreflexive = irreflexive; transitive = transitive; total = total }

@@ -4,7 +4,7 @@ ghost use Rattle.mr_model.specs.Writes.{Id};
 ghost use Rattle.mr_model.specs.Tables.{Tables};
 ghost use Rattle.mr_model.specs.Queries.{booking_id, error_id, cancelled_id, cancel_id};
 ghost use Rattle.mr_tables.specs.Boards.{board_of, AreWithin};
-ghost use Rattle.mr_tables.specs.BoardChanges.{row_of, HaveOneRowEach, row_told, with_told, told_anew};
+ghost use Rattle.mr_tables.specs.BoardChanges.{row_with_id, HaveOneRowEach, row_told, with_told, told_anew};
 ghost use Rattle.mr_tables.specs.Change.{changed};
 
 use crate::boards::{row_of_booking, row_of_cancel, row_of_cancelled, row_of_error};
@@ -19,19 +19,19 @@ pub trait BoardTables {
 
     /// The row of `booking` with this id.
     fn booking(&self, id: WriteId) -> Option<&BookingRow>
-        ensures { option_copied result ≡ row_of booking_id id (tables self.now).booking };
+        ensures { option_copied result ≡ row_with_id booking_id id (tables self.now).booking };
 
     /// That of `errorlog`.
     fn error(&self, id: WriteId) -> Option<&ErrorRow>
-        ensures { option_copied result ≡ row_of error_id id (tables self.now).errorlog };
+        ensures { option_copied result ≡ row_with_id error_id id (tables self.now).errorlog };
 
     /// That of `cancelled`.
     fn cancelled(&self, id: WriteId) -> Option<&CancelledRow>
-        ensures { option_copied result ≡ row_of cancelled_id id (tables self.now).cancelled };
+        ensures { option_copied result ≡ row_with_id cancelled_id id (tables self.now).cancelled };
 
     /// That of `cancels`.
     fn cancel(&self, id: WriteId) -> Option<&CancelRow>
-        ensures { option_copied result ≡ row_of cancel_id id (tables self.now).cancels };
+        ensures { option_copied result ≡ row_with_id cancel_id id (tables self.now).cancels };
 }
 
 /// Makes of the board of some tables that of the tables after a change, which `tables` are. It looks at the ids alone that the change

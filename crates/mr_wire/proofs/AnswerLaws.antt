@@ -6,7 +6,8 @@ use Rattle.mr_model.specs.Positions.{Position, is_position, read_position, posit
 use Rattle.mr_model.proofs.PositionsReadBack.{read-position_text, read_position_text}
 use Rattle.mr_model.specs.Texts.{Text, whole_lines}
 use Rattle.mr_model.specs.Refusals as model
-use Rattle.mr_model.specs.Exchange.{Version, Item, Ending, Heading, Batch, is_batch, batch_text, BodyLine, ItemLine, LastLine, read_header, read_body_line, read_end, read_line, read_body, under_heading, under_header, read_lines, read_batch, ReadsAs, IsFirstBadLine}
+use Rattle.mr_model.specs.Exchange.{Version, Item, Ending, Heading, Batch, is_batch, batch_text, BodyLine, ItemLine, LastLine, read_header, read_body_line}
+use Rattle.mr_model.specs.Exchange.{read_end, read_line, read_body, under_heading, under_header, read_lines, read_batch, ReadsAs, IsFirstBadLine}
 use Rattle.mr_model.proofs.BatchesReadBack.{one_text, read_reads, ok_inj}
 use Rattle.mr_model.proofs.FirstBadLine.{err_inj, ok_err, bad_line_is_first}
 use Rattle.mr_base.specs.RefusalViews.{refusal_of}
@@ -32,7 +33,8 @@ bad_body v k (l ∷ ls) e h = go (read_body_line v l) (read_body v (k + 1) ls) (
     ended ending [] q = absurd (ok_err _ e q)
     ended ending (m ∷ ms) q = (k + 1, sym (err_inj (model.BadLine (k + 1)) e q))
 
-    go : (o : Option BodyLine) (rest : Result (List Item × Ending) model.Refusal) → ((d : model.Refusal) → rest ≡ Err d → (i : ℕ) × (d ≡ model.BadLine i)) → read_line k o ls rest ≡ Err e → (i : ℕ) × (e ≡ model.BadLine i)
+    go : (o : Option BodyLine) (rest : Result (List Item × Ending) model.Refusal)
+        → ((d : model.Refusal) → rest ≡ Err d → (i : ℕ) × (d ≡ model.BadLine i)) → read_line k o ls rest ≡ Err e → (i : ℕ) × (e ≡ model.BadLine i)
     go None rest ih q = (k, sym (err_inj (model.BadLine k) e q))
     go (Some (ItemLine x)) (Ok body) ih q = absurd (ok_err _ e q)
     go (Some (ItemLine x)) (Err d) ih q = ih e q
@@ -43,7 +45,8 @@ unfolding IsBadLine
 bad_lines [] e h = absurd (ok_err _ e h)
 bad_lines (l ∷ ls) e h = go (read_header l) h
   where
-    under : (d : Heading) (body : Result (List Item × Ending) model.Refusal) → ((x : model.Refusal) → body ≡ Err x → (i : ℕ) × (x ≡ model.BadLine i)) → under_heading d body ≡ Err e → (i : ℕ) × (e ≡ model.BadLine i)
+    under : (d : Heading) (body : Result (List Item × Ending) model.Refusal)
+        → ((x : model.Refusal) → body ≡ Err x → (i : ℕ) × (x ≡ model.BadLine i)) → under_heading d body ≡ Err e → (i : ℕ) × (e ≡ model.BadLine i)
     under d (Ok body) f q = absurd (ok_err _ e q)
     under d (Err x) f q = f e (ap Err (err_inj x e q))
 
@@ -74,10 +77,12 @@ ok_position bytes (Err e) h = tt
 
 -- ---- what is written
 
-pub one_batch : (w : Batch) (r : Result (Vec ℕ Global) Refusal) → is_batch w ≡ true → GivesSeen (λ v. v.items) r (Ok (batch_text w)) → (b : Batch) → is_batch b ≡ true → IfOk r (λ v. v.items ≡ batch_text b → b ≡ w)
+pub one_batch : (w : Batch) (r : Result (Vec ℕ Global) Refusal) → is_batch w ≡ true → GivesSeen (λ v. v.items) r (Ok (batch_text w))
+    → (b : Batch) → is_batch b ≡ true → IfOk r (λ v. v.items ≡ batch_text b → b ≡ w)
 one_batch w (Ok v) ok is b within = λ same. one_text b w within ok (sym same ∙ sym (ok_inj (batch_text w) v.items is))
 one_batch w (Err e) ok is b within = tt
 
-pub one_position : (w : Position) (r : Result (Vec ℕ Global) Refusal) → is_position w ≡ true → GivesSeen (λ v. v.items) r (Ok (position_text w)) → (p : Position) → is_position p ≡ true → IfOk r (λ v. v.items ≡ position_text p → p ≡ w)
+pub one_position : (w : Position) (r : Result (Vec ℕ Global) Refusal) → is_position w ≡ true → GivesSeen (λ v. v.items) r (Ok (position_text w))
+    → (p : Position) → is_position p ≡ true → IfOk r (λ v. v.items ≡ position_text p → p ≡ w)
 one_position w (Ok v) ok is p within = λ same. same_Some p w (sym (read-position_text p within) ∙ ap read_position (sym same ∙ sym (ok_inj (position_text w) v.items is)) ∙ read-position_text w ok)
 one_position w (Err e) ok is p within = tt

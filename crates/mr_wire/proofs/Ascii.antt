@@ -1,5 +1,6 @@
 -- Each line of a batch and of a position is ASCII, and so it is text.
-use Rattle.std.proofs.Common.{◌≡◌, refl, sym, subst, ℕ, ◌+◌, ◌-◌, ◌/◌, ◌%◌, ◌^◌, ◌<◌, ◌≤◌, Bool, true, not, ◌||◌, eqb, leb, List, [], ◌∷◌, length, ◌⊎◌, inl, inr, Option, Some, None, arith, lit<, leb-true, eqb-true}
+use Rattle.std.proofs.Common.{◌≡◌, refl, sym, subst, ℕ, ◌+◌, ◌-◌, ◌%◌, ◌^◌, ◌<◌, ◌≤◌, Bool, true, not, ◌||◌, eqb, leb}
+use Rattle.std.proofs.Common.{List, [], ◌∷◌, length, ◌⊎◌, inl, inr, Option, Some, None, arith, lit<, leb-true, eqb-true}
 use Rattle.std.proofs.lemmas.Bool.{and_parts, or_cases}
 use Rattle.std.proofs.lemmas.Fmt.{decimal_by_steps}
 use Rattle.std.proofs.lemmas.Str.{IsUtf8-from_ascii}
@@ -8,17 +9,17 @@ use Rattle.std.specs.Prelude.{flat_map, codes, slice_index}
 use Rattle.std.specs.Str.{IsAscii, IsUtf8}
 use Rattle.std.specs.Fmt.{decimal}
 use Rattle.std.specs.List.{AllByRecursion, list_all}
-use Rattle.mr_model.specs.Texts.{Text, words, within, two_digits}
-use Rattle.mr_model.specs.Calendar.{Date, is_date, date_text, time_text}
+use Rattle.mr_model.specs.Texts.{Text, within}
+use Rattle.mr_model.specs.Calendar.{is_date, date_text, time_text}
 use Rattle.mr_model.specs.Slots.{Slot, is_slot, slot_words}
-use Rattle.mr_model.specs.Writes.{Stamp, Meeting, Action, Books, Cancels, is_write, is_stamp, is_meeting, is_action, is_id, is_server, is_count, is_commit_number, is_room_byte, is_room_name, is_title, choices_of, greatest_count, greatest_time}
-use Rattle.mr_model.specs.Exchange.{Version, First, Second, Heading, Item, W, C, BodyLine, ItemLine, LastLine, Complete, More, Cut, is_heading, is_in_version, is_item, version_word, heading_line, heading_in, stamp_words, meeting_words, target_words, write_words_of, item_line, read_header, read_body_line}
-use Rattle.mr_model.proofs.WordsReadBack.{all_append, date_facts}
+use Rattle.mr_model.specs.Writes.{Stamp, Meeting, Action, Books, Cancels, is_write, is_stamp, is_meeting, is_action, is_id, is_server, is_count}
+use Rattle.mr_model.specs.Writes.{is_commit_number, is_room_byte, is_room_name, is_title, choices_of, greatest_count, greatest_time}
+use Rattle.mr_model.specs.Exchange.{Version, First, Second, Heading, Item, W, C, BodyLine, ItemLine, LastLine, Complete, More, Cut, is_heading, is_in_version, is_item}
+use Rattle.mr_model.specs.Exchange.{version_word, heading_line, heading_in, stamp_words, meeting_words, target_words, write_words_of, item_line, read_header, read_body_line}
+use Rattle.mr_model.proofs.WordsReadBack.{all_append}
 use Rattle.mr_model.proofs.LinesReadBack.{within-high, small, stamp_facts, meeting_facts, id_facts, write_parts, slots_all}
 use Rattle.mr_model.proofs.BatchesReadBack.{own_text, IsLineOf, body_line_of}
-
-abbrev pub Low : Text → Type 0
-Low t = AllByRecursion (λ c. c < 128) t
+use Rattle.mr_model.proofs.LowBytes.{words_low, time_low, date_low, Low}
 
 is_ascii : (t : Text) → Low t → IsAscii t
 is_ascii [] h = IsAscii-nil
@@ -32,25 +33,6 @@ decimal_low = decimal_by_steps (λ n ds. Low ds) (λ n low. (omega (arith, low),
 
 pub number_low : (n g : ℕ) → n ≤ g → g < 2 ^ 64 → Low (decimal n)
 number_low n g a b = decimal_low n (small n g a b)
-
-two_low : (n : ℕ) → n < 100 → Low (two_digits n)
-two_low n h = (omega (arith, h), (omega (arith, h), tt))
-
-date_low : (d : Date) → is_date d ≡ true → Low (date_text d)
-date_low d ok =
-    let f = date_facts d ok in
-    let y : d.year < 2100 = f.to_2099 in
-    let century = two_low (d.year / 100) (omega (arith, y)) in
-    let year = two_low (d.year % 100) (omega arith) in
-    let month = two_low d.month f.month in
-    let day = two_low d.day f.day in
-    (century.0, (century.1.0, (year.0, (year.1.0, (lit< tt, (month.0, (month.1.0, (lit< tt, (day.0, (day.1.0, tt))))))))))
-
-time_low : (n : ℕ) → n ≤ 1439 → Low (time_text n)
-time_low n h =
-    let hour = two_low (n / 60) (omega (arith, h)) in
-    let minute = two_low (n % 60) (omega arith) in
-    (hour.0, (hour.1.0, (lit< tt, (minute.0, (minute.1.0, tt)))))
 
 room_byte_low : (c : ℕ) → is_room_byte c ≡ true → c < 128
 room_byte_low c h = go (or_cases (within 97 122 c || within 48 57 c) (eqb c 45) h)
@@ -76,11 +58,6 @@ title_low t h =
     let b = and_parts _ (not (eqb (slice_index t 0) 32)) a.0 in
     all_low (λ c. within 32 126 c) (λ c e. let m = within-high 32 126 c e in omega (arith, m)) t (and_parts (within 1 60 (length t)) (list_all (λ c. within 32 126 c) t) b.0).1
 
-pub words_low : (ws : List Text) → AllByRecursion Low ws → Low (words ws)
-words_low [] h = tt
-words_low (w ∷ []) h = h.0
-words_low (w ∷ v ∷ ws) h = all_append (λ c. c < 128) w (32 ∷ words (v ∷ ws)) h.0 (lit< tt, words_low (v ∷ ws) h.1)
-
 slot_low : (s : Slot) → is_slot s ≡ true → Low (date_text s.day) × Low (time_text s.start)
 slot_low s ok = let p = and_parts (is_date s.day) (leb s.start 1439) ok in (date_low s.day p.0, time_low s.start (leb-true s.start 1439 p.1))
 
@@ -88,7 +65,8 @@ slots_low : (ss : List Slot) → AllByRecursion (λ s. is_slot s ≡ true) ss �
 slots_low [] h = tt
 slots_low (s ∷ ss) h = let p = slot_low s h.0 in (p.0, (p.1, slots_low ss h.1))
 
-stamp_low : (kind : Text) → Low kind → (stamp : Stamp) → is_stamp stamp ≡ true → (room : Text) → is_room_name room ≡ true → (rest : List Text) → AllByRecursion Low rest → AllByRecursion Low (stamp_words kind stamp room rest)
+stamp_low : (kind : Text) → Low kind → (stamp : Stamp) → is_stamp stamp ≡ true → (room : Text) → is_room_name room ≡ true
+    → (rest : List Text) → AllByRecursion Low rest → AllByRecursion Low (stamp_words kind stamp room rest)
 stamp_low kind k stamp ok room named rest r =
     let f = stamp_facts stamp ok in
     (k, (number_low stamp.server 99 f.server (lit< tt), (number_low stamp.n greatest_count f.n (lit< tt), (number_low stamp.time greatest_time f.time (lit< tt), (room_low room named, r)))))
@@ -124,8 +102,13 @@ item_low v (W w) ok =
 item_low v (C q id) ok =
     let a = and_parts (is_commit_number q) (is_id id) ok in
     let b = and_parts (is_server id.server) (is_count id.n) a.1 in
-    words_low (codes "C" ∷ decimal q ∷ decimal id.server ∷ decimal id.n ∷ [])
-    ((lit< tt, tt), (number_low q 999_999_999_999 (within-high 1 999_999_999_999 q a.0) (lit< tt), (number_low id.server 99 (within-high 1 99 id.server b.0) (lit< tt), (number_low id.n 999_999_999 (within-high 1 999_999_999 id.n b.1) (lit< tt), tt))))
+    words_low (codes "C" ∷ decimal q ∷ decimal id.server ∷ decimal id.n ∷ []) (
+      (lit< tt, tt),
+      (
+        number_low q 999_999_999_999 (within-high 1 999_999_999_999 q a.0) (lit< tt),
+        (number_low id.server 99 (within-high 1 99 id.server b.0) (lit< tt), (number_low id.n 999_999_999 (within-high 1 999_999_999 id.n b.1) (lit< tt), tt)),
+      ),
+    )
 
 version_low : (v : Version) → Low (version_word v)
 version_low First = (lit< tt, (lit< tt, (lit< tt, tt)))
@@ -156,6 +139,10 @@ no_body_line v bytes bad = go (read_body_line v bytes) refl (body_line_of v byte
     go : (o : Option BodyLine) → read_body_line v bytes ≡ o → IsLineOf v bytes (read_body_line v bytes) → read_body_line v bytes ≡ None
     go None e t = e
     go (Some (ItemLine x)) e t = let own = subst (λ o. IsLineOf v bytes o) e t in absurd (bad (subst IsUtf8 (sym own.1) (is_text (item_line x) (item_low v x own.0))))
-    go (Some (LastLine Complete)) e t = let own : bytes ∷ [] ≡ codes "E" ∷ [] = subst (λ o. IsLineOf v bytes o) e t in absurd (bad (subst IsUtf8 (sym (only_line bytes (codes "E") own)) (is_text (codes "E") (lit< tt, tt))))
-    go (Some (LastLine More)) e t = let own : bytes ∷ [] ≡ codes "M" ∷ [] = subst (λ o. IsLineOf v bytes o) e t in absurd (bad (subst IsUtf8 (sym (only_line bytes (codes "M") own)) (is_text (codes "M") (lit< tt, tt))))
+    go (Some (LastLine Complete)) e t =
+        let own : bytes ∷ [] ≡ codes "E" ∷ [] = subst (λ o. IsLineOf v bytes o) e t in
+        absurd (bad (subst IsUtf8 (sym (only_line bytes (codes "E") own)) (is_text (codes "E") (lit< tt, tt))))
+    go (Some (LastLine More)) e t =
+        let own : bytes ∷ [] ≡ codes "M" ∷ [] = subst (λ o. IsLineOf v bytes o) e t in
+        absurd (bad (subst IsUtf8 (sym (only_line bytes (codes "M") own)) (is_text (codes "M") (lit< tt, tt))))
     go (Some (LastLine Cut)) e t = let own : ◌≡◌ {A = List Text} (bytes ∷ []) [] = subst (λ o. IsLineOf v bytes o) e t in absurd (cc)

@@ -1,5 +1,6 @@
 -- A text is cut at the first place of a byte.
-use Rattle.std.proofs.Common.{◌≡◌, refl, sym, ap, ◌∙◌, ℕ, suc, ◌+◌, ◌<◌, ◌≤◌, Bool, true, false, not, cond, eqb, ltb, List, [], ◌∷◌, length, take, drop, arith, Option, Some, None, lt-ltb, ltb-true, ltb-false, Bor}
+use Rattle.std.proofs.Common.{◌≡◌, refl, sym, ap, ◌∙◌, ℕ, suc, ◌+◌, ◌<◌, ◌≤◌, Bool, true, false, not, cond, eqb, ltb, List}
+use Rattle.std.proofs.Common.{[], ◌∷◌, length, take, drop, arith, Option, Some, None, lt-ltb, ltb-true, ltb-false, Bor}
 use Rattle.std.proofs.lemmas.Bool.{le-ltb}
 use Rattle.std.specs.Prelude.{option_map, MatchOption}
 use Rattle.std.specs.List.{before_first, after_first, position_or_len}
@@ -36,10 +37,13 @@ cut_by_place c (x ∷ xs) = go (eqb x c) (cut_by_place c xs)
   where
     go : (b : Bool) → cut c xs ≡ cut_at (place c xs) xs → cond b (Some ([], xs)) (option_map (λ (p : Text × Text). (x ∷ p.0, p.1)) (cut c xs)) ≡ cut_at (cond (not b) (1 + place c xs) 0) (x ∷ xs)
     go true ih = sym (cut_inside 0 (x ∷ xs) (omega arith))
-    go false ih = ap (option_map (λ (p : Text × Text). (x ∷ p.0, p.1))) ih ∙ further x (place c xs) xs ∙ (let next : suc (place c xs) ≡ 1 + place c xs = omega arith in ap (λ m. cut_at m (x ∷ xs)) next)
+    go false ih = ap (option_map (λ (p : Text × Text). (x ∷ p.0, p.1))) ih ∙ further x (place c xs) xs
+        ∙ (let next : suc (place c xs) ≡ 1 + place c xs = omega arith in ap (λ m. cut_at m (x ∷ xs)) next)
 
 -- what `split_once` gives
-pub cut_once : (c : ℕ) (xs : Text) (r : Option (Bor (List ℕ) × Bor (List ℕ))) → MatchOption r (place c xs ≡ length xs) (λ x. (x.0.now ≡ before_first (λ b. eqb b c) xs) × (x.1.now ≡ after_first (λ b. eqb b c) xs) × (place c xs < length xs)) → option_map (λ x. (x.0.now, x.1.now)) r ≡ cut c xs
+pub cut_once : (c : ℕ) (xs : Text) (r : Option (Bor (List ℕ) × Bor (List ℕ)))
+    → MatchOption r (place c xs ≡ length xs) (λ x. (x.0.now ≡ before_first (λ b. eqb b c) xs) × (x.1.now ≡ after_first (λ b. eqb b c) xs) × (place c xs < length xs))
+    → option_map (λ x. (x.0.now, x.1.now)) r ≡ cut c xs
 cut_once c xs None h = sym (cut_by_place c xs ∙ cut_outside (place c xs) xs (omega (arith, h)))
 cut_once c xs (Some x) h = (let a = h.0 in let b = h.1 in λ i. Some (a i, b i)) ∙ sym (cut_by_place c xs ∙ cut_inside (place c xs) xs h.2)
 

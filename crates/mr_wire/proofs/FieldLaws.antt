@@ -1,5 +1,6 @@
 -- A field that is taken off a text is the field that was written, and what was written is taken off again.
-use Rattle.std.proofs.Common.{◌≡◌, refl, sym, ap, ◌∙◌, subst, ℕ, zero, suc, ◌^◌, ◌<◌, ◌≤◌, Bool, true, false, cond, ◌&&◌, eqb, leb, List, [], ◌∷◌, ◌++◌, length, arith, Option, Some, None, eq-eqb, eqb-true, ne_eqb, le-leb, leb-true, ltb, lt-ltb, ltb-true, lit<}
+use Rattle.std.proofs.Common.{◌≡◌, refl, sym, ap, ◌∙◌, subst, ℕ, zero, suc, ◌^◌, ◌<◌, ◌≤◌, Bool, true, false, cond, ◌&&◌, eqb, leb, List, [], ◌∷◌}
+use Rattle.std.proofs.Common.{◌++◌, length, arith, Option, Some, None, eq-eqb, eqb-true, ne_eqb, le-leb, leb-true, ltb, lt-ltb, ltb-true, lit<}
 use Rattle.std.proofs.lemmas.Bool.{and_parts, and_from, cond-false, cond-true}
 use Rattle.std.proofs.lemmas.Option.{same_Some}
 use Rattle.std.specs.Prelude.{option_map, flat_map, ok_or}
@@ -29,7 +30,8 @@ pub cut_takes : (c : ℕ) (text a b : Text) → cut c text ≡ Some (a, b) → t
 cut_takes c [] a b e = absurd (let g : ◌≡◌ {A = Option (Text × Text)} None (Some (a, b)) = e in cc)
 cut_takes c (x ∷ xs) a b e = go (eqb x c) refl (cut c xs) (λ a' b'. cut_takes c xs a' b') e
   where
-    go : (t : Bool) → eqb x c ≡ t → (o : Option (Text × Text)) → ((a' b' : Text) → o ≡ Some (a', b') → xs ≡ a' ++ c ∷ b') → cond {A = Option (Text × Text)} t (Some ([], xs)) (option_map (λ (p : Text × Text). (x ∷ p.0, p.1)) o) ≡ Some (a, b) → x ∷ xs ≡ a ++ c ∷ b
+    go : (t : Bool) → eqb x c ≡ t → (o : Option (Text × Text)) → ((a' b' : Text) → o ≡ Some (a', b') → xs ≡ a' ++ c ∷ b')
+        → cond {A = Option (Text × Text)} t (Some ([], xs)) (option_map (λ (p : Text × Text). (x ∷ p.0, p.1)) o) ≡ Some (a, b) → x ∷ xs ≡ a ++ c ∷ b
     go true t o ih h =
         let is = same_Some ([], xs) (a, b) h in
         let same : x ≡ c = eqb-true x c t in
@@ -86,7 +88,8 @@ number_off_again low high n rest ok top =
 pub stamp_off_takes : (text : Text) (x : Stamp × Text) → stamp_off text ≡ Some x → (is_stamp x.0 ≡ true) × (text ≡ decimal x.0.server ++ 32 ∷ (decimal x.0.n ++ 32 ∷ (decimal x.0.time ++ 32 ∷ x.1)))
 unfolding stamp_off
 stamp_off_takes text x e =
-    let a = bind_some (number_off 1 99 text) (λ server. number_off 1 999_999_999 server.1 >>= λ n. number_off 1 999_999_999_999 n.1 >>= λ time. Some (record { server = server.0; n = n.0; time = time.0 }, time.1)) x e in
+    let a = bind_some (number_off 1 99 text) (λ server. number_off 1 999_999_999 server.1 >>= λ n. number_off 1 999_999_999_999 n.1
+    >>= λ time. Some (record { server = server.0; n = n.0; time = time.0 }, time.1)) x e in
     let b = bind_some (number_off 1 999_999_999 a.0.1) (λ n. number_off 1 999_999_999_999 n.1 >>= λ time. Some (record { server = a.0.0; n = n.0; time = time.0 }, time.1)) x a.2 in
     let d = bind_some (number_off 1 999_999_999_999 b.0.1) (λ time. Some (record { server = a.0.0; n = b.0.0; time = time.0 }, time.1)) x b.2 in
     let ta = number_off_takes 1 99 text a.0 a.1 in
@@ -104,8 +107,10 @@ stamp_off_again s rest ok =
     let a = and_parts (is_server s.server && is_count s.n) (is_time s.time) ok in
     let b = and_parts (is_server s.server) (is_count s.n) a.0 in
     let last = decimal s.time ++ 32 ∷ rest in
-    ap (λ o. o >>= λ (server : ℕ × Text). number_off 1 999_999_999 server.1 >>= λ n. number_off 1 999_999_999_999 n.1 >>= λ time. Some (record { server = server.0; n = n.0; time = time.0 }, time.1)) (number_off_again 1 99 s.server (decimal s.n ++ 32 ∷ last) b.0 (lit< tt))
-    ∙ ap (λ o. o >>= λ (n : ℕ × Text). number_off 1 999_999_999_999 n.1 >>= λ time. Some (record { server = s.server; n = n.0; time = time.0 }, time.1)) (number_off_again 1 999_999_999 s.n last b.1 (lit< tt))
+    ap (λ o. o >>= λ (server : ℕ × Text). number_off 1 999_999_999 server.1 >>= λ n. number_off 1 999_999_999_999 n.1
+    >>= λ time. Some (record { server = server.0; n = n.0; time = time.0 }, time.1)) (number_off_again 1 99 s.server (decimal s.n ++ 32 ∷ last) b.0 (lit< tt))
+    ∙ ap (λ o. o >>= λ (n : ℕ × Text). number_off 1 999_999_999_999 n.1 >>= λ time. Some (record { server = s.server; n = n.0; time = time.0 }, time.1))
+    (number_off_again 1 999_999_999 s.n last b.1 (lit< tt))
     ∙ ap (λ o. o >>= λ (time : ℕ × Text). Some (record { server = s.server; n = s.n; time = time.0 }, time.1)) (number_off_again 1 999_999_999_999 s.time rest a.1 (lit< tt))
 
 -- a stamp and a room, and what stands behind them
@@ -120,7 +125,8 @@ front_off_takes text x e =
     let made : Stamp × Text × Text = (s.0.0, r.0.0, r.0.1) in
     let named = only_if_some (is_room_name r.0.0) made x r.2 in
     let ts = stamp_off_takes text s.0 s.1 in
-    subst (λ (y : Stamp × Text × Text). (is_stamp y.0 ≡ true) × (is_room_name y.1 ≡ true) × (text ≡ decimal y.0.server ++ 32 ∷ (decimal y.0.n ++ 32 ∷ (decimal y.0.time ++ 32 ∷ (y.1 ++ 32 ∷ y.2))))) {x = made} named.1 (
+    subst (λ (y : Stamp × Text × Text). (is_stamp y.0 ≡ true) × (is_room_name y.1 ≡ true)
+    × (text ≡ decimal y.0.server ++ 32 ∷ (decimal y.0.n ++ 32 ∷ (decimal y.0.time ++ 32 ∷ (y.1 ++ 32 ∷ y.2))))) {x = made} named.1 (
       ts.0,
       named.0,
       ts.1 ∙ ap (λ (t : Text). decimal s.0.0.server ++ 32 ∷ (decimal s.0.0.n ++ 32 ∷ (decimal s.0.0.time ++ 32 ∷ t))) (cut_takes 32 s.0.1 r.0.0 r.0.1 r.1),
@@ -186,12 +192,14 @@ unfolding slot_off
 slot_off_again s rest ok =
     let p = and_parts (is_date s.day) (leb s.start 1439) ok in
     let last = time_text s.start ++ 32 ∷ rest in
-    ap (λ o. o >>= λ (word : Text × Text). read_date word.0 >>= λ day. cut 32 word.1 >>= λ next. read_time next.0 >>= λ start. Some (record { day = day; start = start }, next.1)) (word_again (date_text s.day) last (date-plain s.day))
+    ap (λ o. o >>= λ (word : Text × Text). read_date word.0 >>= λ day. cut 32 word.1 >>= λ next. read_time next.0
+    >>= λ start. Some (record { day = day; start = start }, next.1)) (word_again (date_text s.day) last (date-plain s.day))
     ∙ ap (λ o. o >>= λ day. cut 32 last >>= λ next. read_time next.0 >>= λ start. Some (record { day = day; start = start }, next.1)) (date_again s.day p.0)
     ∙ ap (λ o. o >>= λ (next : Text × Text). read_time next.0 >>= λ start. Some (record { day = s.day; start = start }, next.1)) (word_again (time_text s.start) rest (time-plain s.start))
     ∙ ap (λ o. o >>= λ start. Some (record { day = s.day; start = start }, rest)) (time_again s.start p.1)
 
-pub slots_off_take : (k : ℕ) (text : Text) (x : List Slot × Text) → slots_off k text ≡ Some x → (length x.0 ≡ k) × AllByRecursion (λ s. is_slot s ≡ true) x.0 × (text ≡ words (flat_map slot_words x.0 ++ x.1 ∷ []))
+pub slots_off_take : (k : ℕ) (text : Text) (x : List Slot × Text) → slots_off k text ≡ Some x
+    → (length x.0 ≡ k) × AllByRecursion (λ s. is_slot s ≡ true) x.0 × (text ≡ words (flat_map slot_words x.0 ++ x.1 ∷ []))
 unfolding slots_off
 slots_off_take zero text x e =
     subst (λ (y : List Slot × Text). (length y.0 ≡ 0) × AllByRecursion (λ s. is_slot s ≡ true) y.0 × (text ≡ words (flat_map slot_words y.0 ++ y.1 ∷ []))) (same_Some ([], text) x e) (refl, tt, refl)
@@ -213,7 +221,8 @@ unfolding slots_off
 slots_off_again [] rest h = refl
 slots_off_again (s ∷ ss) rest h =
     let ts = flat_map slot_words ss in
-    let line : words (flat_map slot_words (s ∷ ss) ++ rest ∷ []) ≡ date_text s.day ++ 32 ∷ (time_text s.start ++ 32 ∷ words (ts ++ rest ∷ [])) = ap (λ (t : Text). date_text s.day ++ 32 ∷ t) (words-cons (time_text s.start) ts rest) in
+    let line : words (flat_map slot_words (s ∷ ss) ++ rest ∷ []) ≡ date_text s.day ++ 32 ∷
+    (time_text s.start ++ 32 ∷ words (ts ++ rest ∷ [])) = ap (λ (t : Text). date_text s.day ++ 32 ∷ t) (words-cons (time_text s.start) ts rest) in
     ap (slots_off (suc (length ss))) line
     ∙ ap (λ o. o >>= λ (slot : Slot × Text). slots_off (length ss) slot.1 >>= λ others. Some (slot.0 ∷ others.0, others.1)) (slot_off_again s (words (ts ++ rest ∷ [])) h.0)
     ∙ ap (λ o. o >>= λ (others : List Slot × Text). Some (s ∷ others.0, others.1)) (slots_off_again ss rest h.1)

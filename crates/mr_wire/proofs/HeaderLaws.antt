@@ -64,7 +64,8 @@ pub servers_under_again : (first second : Text) → Plain first → Plain second
 unfolding servers_under
 servers_under_again first second pf ps differ v server primary a b =
     let rest : Text = decimal server ++ 32 ∷ decimal primary in
-    ap (λ o. o >>= λ (word : Text × Text). version_among first second word.0 >>= λ version. server_and 99 word.1 >>= λ servers. Some (version, servers.0, servers.1)) (word_again (word_among first second v) rest (plain v))
+    ap (λ o. o >>= λ (word : Text × Text). version_among first second word.0 >>= λ version. server_and 99 word.1 >>= λ servers. Some (version, servers.0, servers.1))
+    (word_again (word_among first second v) rest (plain v))
     ∙ ap (λ o. o >>= λ (version : Version). server_and 99 rest >>= λ servers. Some (version, servers.0, servers.1)) (version_again first second v differ)
     ∙ ap (λ o. o >>= λ (servers : ℕ × ℕ). Some (v, servers.0, servers.1)) (server_and_again 99 server primary a b (lit< tt))
   where
@@ -94,7 +95,8 @@ unfolding heading_of
 heading_again h ok =
     let d : Header = h.header in
     let a = and_parts (is_server h.header.from) (is_server h.header.primary) ok in
-    ap (λ (w : Text). servers_under (version_word First) (version_word Second) (w ++ 32 ∷ (decimal h.header.from ++ 32 ∷ decimal h.header.primary)) >>= λ found. Some (record { version = found.0; header = record { from = found.1; primary = found.2 } })) (sym (header_word h.version))
+    ap (λ (w : Text). servers_under (version_word First) (version_word Second) (w ++ 32 ∷ (decimal h.header.from ++ 32 ∷ decimal h.header.primary))
+    >>= λ found. Some (record { version = found.0; header = record { from = found.1; primary = found.2 } })) (sym (header_word h.version))
     ∙ ap (λ o. o >>= λ (found : Version × ℕ × ℕ). Some (record { version = found.0; header = record { from = found.1; primary = found.2 } }))
     (servers_under_again (version_word First) (version_word Second) (lit≤ tt, (lit≤ tt, (lit≤ tt, tt))) (lit≤ tt, (lit≤ tt, (lit≤ tt, tt))) refl h.version h.header.from h.header.primary a.0 a.1)
 

@@ -1,5 +1,6 @@
 -- A line is read as the fields on it exactly where it is their line.
-use Rattle.std.proofs.Common.{◌≡◌, refl, sym, ap, ◌∙◌, subst, ℕ, ◌^◌, ◌<◌, ◌≤◌, Bool, true, false, not, cond, ◌&&◌, leb, ltb, List, [], ◌∷◌, ◌++◌, length, arith, Option, Some, None, Ok, Err, lit<, lit≤, le-leb, leb-true}
+use Rattle.std.proofs.Common.{◌≡◌, refl, sym, ap, ◌∙◌, subst, ℕ, ◌^◌, ◌<◌, ◌≤◌, Bool, true, false, not, cond, ◌&&◌, leb, ltb}
+use Rattle.std.proofs.Common.{List, [], ◌∷◌, ◌++◌, length, arith, Option, Some, None, Ok, Err, lit<, lit≤, le-leb, leb-true}
 use Rattle.std.proofs.lemmas.Bool.{true≢false, and_parts, and_from, le-ltb}
 use Rattle.std.proofs.lemmas.Option.{same_Some}
 use Rattle.std.proofs.lemmas.Slice.Eq.{bytes_eq-Decides}
@@ -10,7 +11,8 @@ use Rattle.std.specs.List.{AllByRecursion, list_all}
 use Rattle.mr_model.specs.Texts.{Text, within, only_if, words}
 use Rattle.mr_model.specs.Calendar.{date_text, time_text}
 use Rattle.mr_model.specs.Slots.{Slot, is_slot, slot_words}
-use Rattle.mr_model.specs.Writes.{Id, Stamp, Meeting, Action, Books, Cancels, Write, is_write, is_meeting, is_stamp, is_server, is_count, is_id, is_commit_number, is_room_name, is_title, is_length, fits_day, choices_of, greatest_alternatives}
+use Rattle.mr_model.specs.Writes.{Id, Stamp, Meeting, Action, Books, Cancels, Write, is_write, is_meeting, is_stamp, is_server, is_count}
+use Rattle.mr_model.specs.Writes.{is_id, is_commit_number, is_room_name, is_title, is_length, fits_day, choices_of, greatest_alternatives}
 use Rattle.mr_model.specs.Requests.{is_length_for}
 use Rattle.mr_model.specs.Exchange.{Version, First, Second, Item, W, C, BodyLine, ItemLine, LastLine, Complete, More, Cut, is_in_version, is_item, write_line, item_line, read_body_line}
 use Rattle.mr_model.proofs.WordsReadBack.{Plain}
@@ -22,8 +24,10 @@ use Rattle.mr_base.specs.Limits.{limited}
 use Rattle.mr_wire.specs.Words.{cut}
 use Rattle.mr_base.specs.Readings.{number_from_to}
 use Rattle.mr_base.proofs.Readers.{same_reading}
-use Rattle.mr_wire.specs.Fields.{◌>>=◌, number_off, slot_off, slots_off, front_off, most_alternatives, choices_off, booking_with, parse_booking, behind_word, server_and, parse_id, cancel_parts, parse_cancel, commit_of, worded_line, bare_line, line_by, parse_line}
-use Rattle.mr_wire.proofs.FieldLaws.{bind_some, cut_takes, word_again, number_takes, number_again, number_off_takes, number_off_again, front_rest, front_off_takes, front_off_again, slot_off_takes, slot_off_again, slots_off_take, slots_off_again}
+use Rattle.mr_wire.specs.Fields.{◌>>=◌, number_off, slot_off, slots_off, front_off, most_alternatives, choices_off, booking_with, parse_booking}
+use Rattle.mr_wire.specs.Fields.{behind_word, server_and, parse_id, cancel_parts, parse_cancel, commit_of, worded_line, bare_line, line_by, parse_line}
+use Rattle.mr_wire.proofs.FieldLaws.{bind_some, cut_takes, word_again, number_takes, number_again, number_off_takes, number_off_again, front_rest}
+use Rattle.mr_wire.proofs.FieldLaws.{front_off_takes, front_off_again, slot_off_takes, slot_off_again, slots_off_take, slots_off_again}
 
 -- the booking and the cancel of these parts
 abbrev pub booking : Stamp → Text → Meeting → Write
@@ -69,7 +73,8 @@ record AreChoices (most : ℕ) (text : Text) (wish : Slot) (others : List Slot) 
   few : length others ≤ most
   is : text ≡ choices_rest wish others title
 
-choices_made : (most : ℕ) (text : Text) (a : Slot × Text) (k : ℕ × Text) (o : List Slot × Text) → slot_off text ≡ Some a → number_off 0 most a.1 ≡ Some k → slots_off k.0 k.1 ≡ Some o → AreChoices most text a.0 o.0 o.1
+choices_made : (most : ℕ) (text : Text) (a : Slot × Text) (k : ℕ × Text) (o : List Slot × Text) → slot_off text ≡ Some a
+    → number_off 0 most a.1 ≡ Some k → slots_off k.0 k.1 ≡ Some o → AreChoices most text a.0 o.0 o.1
 unfolding choices_rest
 choices_made most text a k o ea ek eo =
     let ta = slot_off_takes text a ea in
@@ -94,7 +99,8 @@ choices_take most text x e =
     let made : (Slot × List Slot) × Text = ((a.0.0, o.0.0), o.0.1) in
     subst (λ (y : (Slot × List Slot) × Text). AreChoices most text y.0.0 y.0.1 y.1) {x = made} (same_Some made x o.2) (choices_made most text a.0 k.0 o.0 a.1 k.1 o.1)
 
-choices_again : (most : ℕ) (wish : Slot) (others : List Slot) (title : Text) → most < 2 ^ 64 → is_slot wish ≡ true → AllByRecursion (λ s. is_slot s ≡ true) others → length others ≤ most → choices_off most (choices_rest wish others title) ≡ Some ((wish, others), title)
+choices_again : (most : ℕ) (wish : Slot) (others : List Slot) (title : Text) → most < 2 ^ 64 → is_slot wish ≡ true
+    → AllByRecursion (λ s. is_slot s ≡ true) others → length others ≤ most → choices_off most (choices_rest wish others title) ≡ Some ((wish, others), title)
 unfolding choices_rest choices_off
 choices_again most wish others title top ok all few =
     let tail : Text = words (flat_map slot_words others ++ title ∷ []) in
@@ -115,7 +121,8 @@ booking_line_is stamp room m = ap (λ (t : Text). 87 ∷ 32 ∷ (
     date_text m.wish.day ++ 32 ∷ (time_text m.wish.start ++ 32 ∷ t))))))))
     (words-cons (decimal (length m.alternatives)) (flat_map slot_words m.alternatives) m.title)
 
-booking_ok : (v : Version) (stamp : Stamp) (room : Text) (m : Meeting) → is_stamp stamp ≡ true → is_room_name room ≡ true → is_title m.title ≡ true → is_length_for m.length (choices_of m) ≡ true → length m.alternatives ≤ most_alternatives v → is_item v (W (booking stamp room m)) ≡ true
+booking_ok : (v : Version) (stamp : Stamp) (room : Text) (m : Meeting) → is_stamp stamp ≡ true → is_room_name room ≡ true → is_title m.title ≡ true
+    → is_length_for m.length (choices_of m) ≡ true → length m.alternatives ≤ most_alternatives v → is_item v (W (booking stamp room m)) ≡ true
 booking_ok v stamp room m s r t f few =
     let fits = and_parts (is_length m.length) (list_all (λ c. is_slot c && fits_day m.length c) (choices_of m)) f in
     and_from (is_write (booking stamp room m)) (is_in_version v (booking stamp room m))
@@ -126,7 +133,8 @@ booking_ok v stamp room m s r t f few =
     fits.1))
     (in_version v stamp room m few)
 
-booking_made : (v : Version) (text : Text) (f : Stamp × Text × Text) (m : ℕ × Text) (c : (Slot × List Slot) × Text) (w : Write) → front_off text ≡ Some f → number_off 1 1440 f.2 ≡ Some m → choices_off (most_alternatives v) m.1 ≡ Some c → booking_with f.0 f.1 m.0 c.0.0 c.0.1 c.1 ≡ Some w → IsWriteOf 87 v text w
+booking_made : (v : Version) (text : Text) (f : Stamp × Text × Text) (m : ℕ × Text) (c : (Slot × List Slot) × Text) (w : Write) → front_off text ≡ Some f
+    → number_off 1 1440 f.2 ≡ Some m → choices_off (most_alternatives v) m.1 ≡ Some c → booking_with f.0 f.1 m.0 c.0.0 c.0.1 c.1 ≡ Some w → IsWriteOf 87 v text w
 unfolding booking_with meeting_rest
 booking_made v text f m c w ef em ec ew =
     let meeting : Meeting = record { title = c.1; length = m.0; wish = c.0.0; alternatives = c.0.1 } in
@@ -147,12 +155,14 @@ booking_made v text f m c w ef em ec ew =
 booking_takes : (v : Version) (text : Text) (w : Write) → parse_booking v text ≡ Some w → IsWriteOf 87 v text w
 unfolding parse_booking
 booking_takes v text w e =
-    let f = bind_some (front_off text) (λ front. number_off 1 1440 front.2 >>= λ minutes. choices_off (most_alternatives v) minutes.1 >>= λ c. booking_with front.0 front.1 minutes.0 c.0.0 c.0.1 c.1) w e in
+    let f = bind_some (front_off text) (λ front. number_off 1 1440 front.2 >>= λ minutes. choices_off (most_alternatives v) minutes.1
+    >>= λ c. booking_with front.0 front.1 minutes.0 c.0.0 c.0.1 c.1) w e in
     let m = bind_some (number_off 1 1440 f.0.2) (λ minutes. choices_off (most_alternatives v) minutes.1 >>= λ c. booking_with f.0.0 f.0.1 minutes.0 c.0.0 c.0.1 c.1) w f.2 in
     let c = bind_some (choices_off (most_alternatives v) m.0.1) (λ c. booking_with f.0.0 f.0.1 m.0.0 c.0.0 c.0.1 c.1) w m.2 in
     booking_made v text f.0 m.0 c.0 w f.1 m.1 c.1 c.2
 
-booking_again : (v : Version) (stamp : Stamp) (room : Text) (m : Meeting) → is_item v (W (booking stamp room m)) ≡ true → parse_booking v (front_rest stamp room (meeting_rest m)) ≡ Some (booking stamp room m)
+booking_again : (v : Version) (stamp : Stamp) (room : Text) (m : Meeting) → is_item v (W (booking stamp room m)) ≡ true
+    → parse_booking v (front_rest stamp room (meeting_rest m)) ≡ Some (booking stamp room m)
 unfolding parse_booking booking_with meeting_rest
 booking_again v stamp room m ok =
     let version = and_parts (is_write (booking stamp room m)) (is_in_version v (booking stamp room m)) ok in
@@ -165,9 +175,12 @@ booking_again v stamp room m ok =
     let few : length m.alternatives ≤ most_alternatives v = few_in_version v stamp room m version.1 f.few in
     let tail : Text = choices_rest m.wish m.alternatives m.title in
     let fits : is_length_for m.length (choices_of m) ≡ true = and_from (is_length m.length) (list_all (λ s. is_slot s && fits_day m.length s) (choices_of m)) long f.slots in
-    ap (λ o. o >>= λ (front : Stamp × Text × Text). number_off 1 1440 front.2 >>= λ minutes. choices_off (most_alternatives v) minutes.1 >>= λ c. booking_with front.0 front.1 minutes.0 c.0.0 c.0.1 c.1) (front_off_again stamp room (decimal m.length ++ 32 ∷ tail) p.0 p.1)
-    ∙ ap (λ o. o >>= λ (minutes : ℕ × Text). choices_off (most_alternatives v) minutes.1 >>= λ c. booking_with stamp room minutes.0 c.0.0 c.0.1 c.1) (number_off_again 1 1440 m.length tail long (lit< tt))
-    ∙ ap (λ o. o >>= λ (c : (Slot × List Slot) × Text). booking_with stamp room m.length c.0.0 c.0.1 c.1) (choices_again (most_alternatives v) m.wish m.alternatives m.title (most_small v) all.0 all.1 few)
+    ap (λ o. o >>= λ (front : Stamp × Text × Text). number_off 1 1440 front.2 >>= λ minutes. choices_off (most_alternatives v) minutes.1
+    >>= λ c. booking_with front.0 front.1 minutes.0 c.0.0 c.0.1 c.1) (front_off_again stamp room (decimal m.length ++ 32 ∷ tail) p.0 p.1)
+    ∙ ap (λ o. o >>= λ (minutes : ℕ × Text). choices_off (most_alternatives v) minutes.1 >>= λ c. booking_with stamp room minutes.0 c.0.0 c.0.1 c.1)
+    (number_off_again 1 1440 m.length tail long (lit< tt))
+    ∙ ap (λ o. o >>= λ (c : (Slot × List Slot) × Text). booking_with stamp room m.length c.0.0 c.0.1 c.1)
+    (choices_again (most_alternatives v) m.wish m.alternatives m.title (most_small v) all.0 all.1 few)
     ∙ ap (λ b. only_if b (booking stamp room m)) (and_from (is_title m.title) (is_length_for m.length (choices_of m) && not (ltb greatest_alternatives (length m.alternatives))) f.title
     (and_from (is_length_for m.length (choices_of m)) (not (ltb greatest_alternatives (length m.alternatives))) fits (ap not (le-ltb greatest_alternatives (length m.alternatives) f.few))))
 
@@ -319,7 +332,8 @@ worded_takes v text word rest x is = go (bytes_eq word (codes "W")) refl (bytes_
         subst (λ y. IsLineOf v text (Some y)) (same_Some (ItemLine (W w.0)) x w.2) (t.ok, is ∙ ap (λ (u : Text). u ++ 32 ∷ rest) same ∙ t.is)
 
     go : (a : Bool) → bytes_eq word (codes "W") ≡ a → (d : Bool) → bytes_eq word (codes "X") ≡ d → (b : Bool) → bytes_eq word (codes "C") ≡ b
-        → cond a (parse_booking v rest >>= λ w. Some (ItemLine (W w))) (cond d (parse_cancel v rest >>= λ w. Some (ItemLine (W w))) (cond b (commit_of rest >>= λ c. Some (ItemLine c)) None)) ≡ Some x → IsLineOf v text (Some x)
+        → cond a (parse_booking v rest >>= λ w. Some (ItemLine (W w))) (cond d (parse_cancel v rest >>= λ w. Some (ItemLine (W w))) (cond b (commit_of rest >>= λ c. Some (ItemLine c)) None)) ≡ Some x
+        → IsLineOf v text (Some x)
     go true a d ed b eb e = written 87 (parse_booking v rest) ((bytes_eq-Decides word (codes "W")).0 a) (λ w. booking_takes v rest w) e
     go false a true ed b eb e = written 88 (parse_cancel v rest) ((bytes_eq-Decides word (codes "X")).0 ed) (λ w. cancel_takes v rest w) e
     go false a false ed true eb e =
@@ -333,7 +347,8 @@ bare_takes : (v : Version) (text : Text) (x : BodyLine) → bare_line text ≡ S
 unfolding bare_line
 bare_takes v text x = go (bytes_eq text (codes "E")) refl (bytes_eq text (codes "M")) refl
   where
-    go : (a : Bool) → bytes_eq text (codes "E") ≡ a → (b : Bool) → bytes_eq text (codes "M") ≡ b → cond a (Some (LastLine Complete)) (cond b (Some (LastLine More)) None) ≡ Some x → IsLineOf v text (Some x)
+    go : (a : Bool) → bytes_eq text (codes "E") ≡ a → (b : Bool) → bytes_eq text (codes "M") ≡ b
+        → cond a (Some (LastLine Complete)) (cond b (Some (LastLine More)) None) ≡ Some x → IsLineOf v text (Some x)
     go true a b eb e = subst (λ y. IsLineOf v text (Some y)) (same_Some (LastLine Complete) x e) (ap (λ (t : Text). t ∷ []) ((bytes_eq-Decides text (codes "E")).0 a))
     go false a true eb e = subst (λ y. IsLineOf v text (Some y)) (same_Some (LastLine More) x e) (ap (λ (t : Text). t ∷ []) ((bytes_eq-Decides text (codes "M")).0 eb))
     go false a false eb e = absurd (let f : ◌≡◌ {A = Option BodyLine} None (Some x) = e in cc)
@@ -352,7 +367,8 @@ no_line : (t : Text) → ◌≡◌ {A = List Text} (t ∷ []) [] → ⊥
 no_line t e = cc
 
 -- what both read of a line of a kind
-same_read : (v : Version) (read : Text → Option BodyLine) → ((x : Item) → is_item v x ≡ true → read (item_line x) ≡ Some (ItemLine x)) → read (codes "E") ≡ Some (LastLine Complete) → read (codes "M") ≡ Some (LastLine More) → (text : Text) (x : BodyLine) → IsLineOf v text (Some x) → read text ≡ Some x
+same_read : (v : Version) (read : Text → Option BodyLine) → ((x : Item) → is_item v x ≡ true → read (item_line x) ≡ Some (ItemLine x))
+    → read (codes "E") ≡ Some (LastLine Complete) → read (codes "M") ≡ Some (LastLine More) → (text : Text) (x : BodyLine) → IsLineOf v text (Some x) → read text ≡ Some x
 same_read v read items e m text (ItemLine x) t = ap read t.1 ∙ items x t.0
 same_read v read items e m text (LastLine Complete) t = ap read (only_line text (codes "E") t) ∙ e
 same_read v read items e m text (LastLine More) t = ap read (only_line text (codes "M") t) ∙ m
@@ -378,7 +394,8 @@ refused true false v e f g h = absurd (cc)
 refused true true v e f g h = refl
 refused false d v e f g h = refl
 
-pub made_booking : (stamp : Stamp) (room title : Text) (m : ℕ) (wish : Slot) (others : List Slot) (r t : Text) (w : Write) → r ≡ room → t ≡ title → is_title title ≡ true → limited m wish others (booking stamp r (record { title = t; length = m; wish = wish; alternatives = others })) ≡ Ok w
+pub made_booking : (stamp : Stamp) (room title : Text) (m : ℕ) (wish : Slot) (others : List Slot) (r t : Text) (w : Write) → r ≡ room → t ≡ title
+    → is_title title ≡ true → limited m wish others (booking stamp r (record { title = t; length = m; wish = wish; alternatives = others })) ≡ Ok w
     → booking_with stamp room m wish others title ≡ Some w
 unfolding booking_with
 made_booking stamp room title m wish others r t w er et ht h =
@@ -388,7 +405,8 @@ made_booking stamp room title m wish others r t w er et ht h =
     let k = kept (is_length_for m (wish ∷ others)) (ltb greatest_alternatives (length others)) made w BadLength TooManyAlternatives h in
     ap (λ b. only_if b asked) (and_from (is_title title) (is_length_for m (wish ∷ others) && not (ltb greatest_alternatives (length others))) ht k.0) ∙ ap (λ (v : Write). Some v) (same ∙ k.1)
 
-pub no_booking : (stamp : Stamp) (room title : Text) (m : ℕ) (wish : Slot) (others : List Slot) (v : Write) (g : Refusal) → limited m wish others v ≡ Err g → booking_with stamp room m wish others title ≡ None
+pub no_booking : (stamp : Stamp) (room title : Text) (m : ℕ) (wish : Slot) (others : List Slot) (v : Write) (g : Refusal)
+    → limited m wish others v ≡ Err g → booking_with stamp room m wish others title ≡ None
 unfolding booking_with
 no_booking stamp room title m wish others v g h =
     let k = refused (is_length_for m (wish ∷ others)) (ltb greatest_alternatives (length others)) v BadLength TooManyAlternatives g h in

@@ -1,5 +1,6 @@
 -- What is read one after the other, as a loop does.
-use Rattle.std.proofs.Common.{◌≡◌, refl, sym, ap, ◌∙◌, ℕ, suc, ◌+◌, ◌-◌, ◌<◌, ◌≤◌, Bool, true, false, cond, eqb, List, [], ◌∷◌, ◌++◌, append_assoc, arith, Option, Some, None, Result, Ok, Err, ◌⊎◌, inl, inr}
+use Rattle.std.proofs.Common.{◌≡◌, refl, sym, ap, ◌∙◌, ℕ, suc, ◌+◌, ◌-◌, ◌<◌, ◌≤◌, Bool, true, false, cond, eqb, List}
+use Rattle.std.proofs.Common.{[], ◌∷◌, ◌++◌, append_assoc, arith, Option, Some, None, Result, Ok, Err, ◌⊎◌, inl, inr}
 use Rattle.std.proofs.lemmas.Bool.{and_parts}
 use Rattle.std.proofs.lemmas.List.{append-nil}
 use Rattle.std.specs.Prelude.{option_map, codes}
@@ -8,7 +9,8 @@ use Rattle.std.specs.Str.{bytes_eq}
 use Rattle.mr_model.specs.Texts.{Text, whole_lines, in_first_line}
 use Rattle.mr_model.specs.Slots.{Slot}
 use Rattle.mr_model.specs.Refusals as model
-use Rattle.mr_model.specs.Exchange.{Version, Item, Ending, Cut, Heading, BodyLine, ItemLine, LastLine, is_heading, is_item, read_header, read_body_line, with_item, read_end, read_line, read_body, under_heading, under_header, read_lines, read_batch, no_lines}
+use Rattle.mr_model.specs.Exchange.{Version, Item, Ending, Cut, Heading, BodyLine, ItemLine, LastLine, is_heading, is_item, read_header, read_body_line}
+use Rattle.mr_model.specs.Exchange.{with_item, read_end, read_line, read_body, under_heading, under_header, read_lines, read_batch, no_lines}
 use Rattle.mr_model.proofs.BatchesReadBack.{read_reads}
 use Rattle.mr_base.specs.RefusalViews.{refusal_of}
 use Rattle.mr_base.specs.declared.refusals.Refusal.{Refusal}
@@ -36,17 +38,20 @@ pub slots_go_on : (front : List Slot) (count i : ℕ) (text : Text) (s : Slot) (
 unfolding slots_off
 slots_go_on front count i text s after total lt h so_far =
     let k : count - i ≡ suc (count - (i + 1)) = omega arith in
-    let one : with_slots front (slots_off (count - i) text) ≡ with_slots (front ++ s ∷ []) (slots_off (count - (i + 1)) after) = rw (k, h) (regroup_slots front s (slots_off (count - (i + 1)) after)) in
+    let one : with_slots front (slots_off (count - i) text) ≡ with_slots (front ++ s ∷ []) (slots_off (count - (i + 1)) after) =
+    rw (k, h) (regroup_slots front s (slots_off (count - (i + 1)) after)) in
     sym one ∙ so_far
 
-pub slots_end : (front : List Slot) (count i : ℕ) (text : Text) (total : Option (List Slot × Text)) → i < count → slot_off text ≡ None → with_slots front (slots_off (count - i) text) ≡ total → total ≡ None
+pub slots_end : (front : List Slot) (count i : ℕ) (text : Text) (total : Option (List Slot × Text))
+    → i < count → slot_off text ≡ None → with_slots front (slots_off (count - i) text) ≡ total → total ≡ None
 unfolding slots_off
 slots_end front count i text total lt h so_far =
     let k : count - i ≡ suc (count - (i + 1)) = omega arith in
     let one : with_slots front (slots_off (count - i) text) ≡ None = rw (k, h) refl in
     sym so_far ∙ one
 
-pub slots_are_done : (front : List Slot) (count i : ℕ) (text : Text) (total : Option (List Slot × Text)) → count ≤ i → with_slots front (slots_off (count - i) text) ≡ total → total ≡ Some (front, text)
+pub slots_are_done : (front : List Slot) (count i : ℕ) (text : Text) (total : Option (List Slot × Text))
+    → count ≤ i → with_slots front (slots_off (count - i) text) ≡ total → total ≡ Some (front, text)
 unfolding slots_off
 slots_are_done front count i text total le so_far =
     let k : count - i ≡ 0 = omega arith in
@@ -64,7 +69,8 @@ unfolding lines_by
 lines_cut [] = refl
 lines_cut (c ∷ cs) = go (eqb c 10) (cut 10 cs) (lines_cut cs)
   where
-    go : (b : Bool) (o : Option (Text × Text)) → whole_lines cs ≡ lines_by o → cond b ([] ∷ whole_lines cs) (in_first_line c (whole_lines cs)) ≡ lines_by (cond {A = Option (Text × Text)} b (Some ([], cs)) (option_map (λ (p : Text × Text). (c ∷ p.0, p.1)) o))
+    go : (b : Bool) (o : Option (Text × Text)) → whole_lines cs ≡ lines_by o → cond b ([] ∷ whole_lines cs) (in_first_line c (whole_lines cs))
+        ≡ lines_by (cond {A = Option (Text × Text)} b (Some ([], cs)) (option_map (λ (p : Text × Text). (c ∷ p.0, p.1)) o))
     go true o ih = refl
     go false (Some p) ih = ap (in_first_line c) ih
     go false None ih = ap (in_first_line c) ih
@@ -84,7 +90,8 @@ regroup_items : (front : List Item) (x : Item) (read : Result (List Item × Endi
 regroup_items front x (Ok body) = ap (λ (xs : List Item). Ok (xs, body.1)) (sym (append_assoc front (x ∷ []) body.0))
 regroup_items front x (Err e) = refl
 
-module _ (v : Version) (front : List Item) (k : ℕ) (rest line behind : Text) (total : Result (List Item × Ending) model.Refusal) (is : Some (line, behind) ≡ cut 10 rest) (so_far : with_front front (read_body v (k + 1) (whole_lines rest)) ≡ total) where
+module _ (v : Version) (front : List Item) (k : ℕ) (rest line behind : Text) (total : Result (List Item × Ending) model.Refusal)
+    (is : Some (line, behind) ≡ cut 10 rest) (so_far : with_front front (read_body v (k + 1) (whole_lines rest)) ≡ total) where
   -- what is read of the first line, and of those behind it
   by_first : (o : Option BodyLine) → read_body_line v line ≡ o → with_front front (read_line (k + 1) o (whole_lines behind) (read_body v (k + 1 + 1) (whole_lines behind))) ≡ total
   by_first o e =
@@ -101,7 +108,8 @@ module _ (v : Version) (front : List Item) (k : ℕ) (rest line behind : Text) (
   body_refused faults.NotALine e = inl (sym (by_first None e))
   body_refused faults.OutOfMemory e = inr refl
 
-pub body_is_done : (v : Version) (front : List Item) (k : ℕ) (rest : Text) (total : Result (List Item × Ending) model.Refusal) → None ≡ cut 10 rest → with_front front (read_body v k (whole_lines rest)) ≡ total → total ≡ Ok (front, Cut)
+pub body_is_done : (v : Version) (front : List Item) (k : ℕ) (rest : Text) (total : Result (List Item × Ending) model.Refusal)
+    → None ≡ cut 10 rest → with_front front (read_body v k (whole_lines rest)) ≡ total → total ≡ Ok (front, Cut)
 body_is_done v front k rest total is so_far =
     sym so_far ∙ ap (λ ls. with_front front (read_body v k ls)) (no_line_left rest is) ∙ ap (λ (xs : List Item). Ok (xs, Cut)) (append-nil front)
 
@@ -109,7 +117,8 @@ body_is_done v front k rest total is so_far =
 pub ends_there : (front : List Item) (ending : Ending) (n : ℕ) (behind : Text) → None ≡ cut 10 behind → with_front front (read_end ending n (whole_lines behind)) ≡ Ok (front, ending)
 ends_there front ending n behind is = ap (λ ls. with_front front (read_end ending n ls)) (no_line_left behind is) ∙ ap (λ (xs : List Item). Ok (xs, ending)) (append-nil front)
 
-pub line_behind : (front : List Item) (ending : Ending) (n : ℕ) (behind : Text) (p : Text × Text) → Some p ≡ cut 10 behind → with_front front (read_end ending n (whole_lines behind)) ≡ Err (model.BadLine (n + 1))
+pub line_behind : (front : List Item) (ending : Ending) (n : ℕ) (behind : Text) (p : Text × Text)
+    → Some p ≡ cut 10 behind → with_front front (read_end ending n (whole_lines behind)) ≡ Err (model.BadLine (n + 1))
 line_behind front ending n behind p is = ap (λ ls. with_front front (read_end ending n ls)) (first_line_is behind p.0 p.1 is)
 
 -- ---- the whole
@@ -123,17 +132,21 @@ bad_header bytes line rest is e = ap read_lines (first_line_is bytes line rest i
 pub read_under : (bytes line rest : Text) (h : Heading) → Some (line, rest) ≡ cut 10 bytes → read_header line ≡ Some h → read_batch bytes ≡ under_heading h (read_body h.version 2 (whole_lines rest))
 read_under bytes line rest h is e = ap read_lines (first_line_is bytes line rest is) ∙ ap (λ o. under_header o (whole_lines rest)) e
 
-pub bad_body : (bytes line rest : Text) (h : Heading) (e : Refusal) → Some (line, rest) ≡ cut 10 bytes → read_header line ≡ Some h → (read_body h.version 2 (whole_lines rest) ≡ Err (refusal_of e)) ⊎ (e ≡ OutOfMemory) → (read_batch bytes ≡ Err (refusal_of e)) ⊎ (e ≡ OutOfMemory)
+pub bad_body : (bytes line rest : Text) (h : Heading) (e : Refusal) → Some (line, rest) ≡ cut 10 bytes → read_header line ≡ Some h
+    → (read_body h.version 2 (whole_lines rest) ≡ Err (refusal_of e)) ⊎ (e ≡ OutOfMemory) → (read_batch bytes ≡ Err (refusal_of e)) ⊎ (e ≡ OutOfMemory)
 bad_body bytes line rest h e is head (inl b) = inl (read_under bytes line rest h is head ∙ ap (under_heading h) b)
 bad_body bytes line rest h e is head (inr m) = inr m
 
-pub whole_batch : (bytes line rest : Text) (h : Heading) (body : List Item × Ending) → Some (line, rest) ≡ cut 10 bytes → Some h ≡ read_header line → read_body h.version 2 (whole_lines rest) ≡ Ok body → read_batch bytes ≡ Ok (record { version = h.version; header = Some h.header; items = body.0; ending = body.1 })
+pub whole_batch : (bytes line rest : Text) (h : Heading) (body : List Item × Ending) → Some (line, rest) ≡ cut 10 bytes → Some h ≡ read_header line
+    → read_body h.version 2 (whole_lines rest) ≡ Ok body → read_batch bytes ≡ Ok (record { version = h.version; header = Some h.header; items = body.0; ending = body.1 })
 whole_batch bytes line rest h body is head read = read_under bytes line rest h is (sym head) ∙ ap (under_heading h) read
 
 -- all items that are read are ones that the version can say
-pub said_items : (bytes line rest : Text) (h : Heading) (body : List Item × Ending) → Some (line, rest) ≡ cut 10 bytes → Some h ≡ read_header line → read_body h.version 2 (whole_lines rest) ≡ Ok body → list_all (is_item h.version) body.0 ≡ true
+pub said_items : (bytes line rest : Text) (h : Heading) (body : List Item × Ending) → Some (line, rest) ≡ cut 10 bytes
+    → Some h ≡ read_header line → read_body h.version 2 (whole_lines rest) ≡ Ok body → list_all (is_item h.version) body.0 ≡ true
 said_items bytes line rest h body is head read =
-    (and_parts (is_heading h) (list_all (is_item h.version) body.0) (read_reads bytes (record { version = h.version; header = Some h.header; items = body.0; ending = body.1 }) (whole_batch bytes line rest h body is head read)).is_a_batch).1
+    (and_parts (is_heading h) (list_all (is_item h.version) body.0)
+    (read_reads bytes (record { version = h.version; header = Some h.header; items = body.0; ending = body.1 }) (whole_batch bytes line rest h body is head read)).is_a_batch).1
 
 -- ---- the counts of a position
 
@@ -141,8 +154,10 @@ regroup_counts : (front : List Count) (c : Count) (read : Option (List Count)) �
 regroup_counts front c (Some cs) = ap (λ (xs : List Count). Some xs) (sym (append_assoc front (c ∷ []) cs))
 regroup_counts front c None = refl
 
-module _ (front : List Count) (rest line behind : Text) (total : Option (List Count)) (is : Some (line, behind) ≡ cut 10 rest) (so_far : with_counts front (counts_until_end (whole_lines rest)) ≡ total) where
-  counts_by_first : (b : Bool) → bytes_eq line (codes "E") ≡ b → with_counts front (cond b (no_more (whole_lines behind)) (parse_count line >>= λ c. (counts_until_end (whole_lines behind) >>= λ cs. Some (c ∷ cs)))) ≡ total
+module _ (front : List Count) (rest line behind : Text) (total : Option (List Count))
+    (is : Some (line, behind) ≡ cut 10 rest) (so_far : with_counts front (counts_until_end (whole_lines rest)) ≡ total) where
+  counts_by_first : (b : Bool) → bytes_eq line (codes "E") ≡ b
+      → with_counts front (cond b (no_more (whole_lines behind)) (parse_count line >>= λ c. (counts_until_end (whole_lines behind) >>= λ cs. Some (c ∷ cs)))) ≡ total
   counts_by_first b e =
       ap (λ t. with_counts front (cond t (no_more (whole_lines behind)) (parse_count line >>= λ c. (counts_until_end (whole_lines behind) >>= λ cs. Some (c ∷ cs))))) (sym e)
       ∙ ap (λ ls. with_counts front (counts_until_end ls)) (sym (first_line_is rest line behind is)) ∙ so_far

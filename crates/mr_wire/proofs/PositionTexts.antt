@@ -1,5 +1,6 @@
 -- A text is read as a position exactly where it is the text of it.
-use Rattle.std.proofs.Common.{◌≡◌, refl, sym, ap, ◌∙◌, subst, ℕ, suc, ◌-◌, ◌<◌, ◌≤◌, Bool, true, false, cond, ◌&&◌, eqb, leb, List, [], ◌∷◌, ◌++◌, length, map, append_assoc, arith, Option, Some, None, lit<, lit≤, le-leb, leb-true, eqb-true, length-append}
+use Rattle.std.proofs.Common.{◌≡◌, refl, sym, ap, ◌∙◌, subst, ℕ, suc, ◌-◌, ◌<◌, ◌≤◌, Bool, true, false, cond, ◌&&◌, eqb, leb, List, [], ◌∷◌, ◌++◌}
+use Rattle.std.proofs.Common.{length, map, append_assoc, arith, Option, Some, None, lit<, lit≤, le-leb, leb-true, eqb-true, length-append}
 use Rattle.std.proofs.lemmas.Bool.{and_parts, and_from, eqb-false}
 use Rattle.std.proofs.lemmas.Option.{same_Some}
 use Rattle.std.proofs.lemmas.List.{append-nil}
@@ -24,8 +25,9 @@ use Rattle.mr_base.proofs.Readers.{same_reading}
 use Rattle.mr_wire.proofs.FieldLaws.{bind_some, number_takes, number_again}
 use Rattle.mr_wire.proofs.LineLaws.{behind_takes, behind_again, server_and_takes, server_and_again}
 use Rattle.mr_wire.proofs.HeaderLaws.{word_among, servers_under_take, servers_under_again}
-use Rattle.mr_wire.proofs.Ascii.{Low, is_text, words_low, number_low}
+use Rattle.mr_wire.proofs.Ascii.{is_text, number_low}
 use Rattle.mr_wire.proofs.LoopLaws.{first_line_is, no_line_left}
+use Rattle.mr_model.proofs.LowBytes.{words_low, Low}
 
 -- ---- the lines
 
@@ -57,7 +59,8 @@ counts_take (l ∷ ls) cs e = go (bytes_eq l (codes "E")) refl (λ ds. counts_ta
     ended [] h is = (λ i. is i ∷ []) ∙ ap (λ ds. map count_line ds ++ codes "E" ∷ []) (same_Some [] cs h)
     ended (m ∷ ms) h is = absurd (let f : ◌≡◌ {A = Option (List Count)} None (Some cs) = h in cc)
 
-    go : (b : Bool) → bytes_eq l (codes "E") ≡ b → ((ds : List Count) → counts_until_end ls ≡ Some ds → ls ≡ map count_line ds ++ codes "E" ∷ []) → cond b (no_more ls) (parse_count l >>= λ c. (counts_until_end ls >>= λ ds. Some (c ∷ ds))) ≡ Some cs → l ∷ ls ≡ map count_line cs ++ codes "E" ∷ []
+    go : (b : Bool) → bytes_eq l (codes "E") ≡ b → ((ds : List Count) → counts_until_end ls ≡ Some ds → ls ≡ map count_line ds ++ codes "E" ∷ [])
+        → cond b (no_more ls) (parse_count l >>= λ c. (counts_until_end ls >>= λ ds. Some (c ∷ ds))) ≡ Some cs → l ∷ ls ≡ map count_line cs ++ codes "E" ∷ []
     go true t ih h = ended ls h ((bytes_eq-Decides l (codes "E")).0 t)
     go false t ih h =
         let a = bind_some (parse_count l) (λ c. (counts_until_end ls >>= λ ds. Some (c ∷ ds))) cs h in
@@ -92,7 +95,8 @@ servers_take text s e =
     let t = servers_under_take (position_word First) (position_word Second) text s e in
     record { server_ok = t.server_ok; primary_ok = t.primary_ok; is = t.is ∙ ap (λ (w : Text). w ++ 32 ∷ (decimal s.1 ++ 32 ∷ decimal s.2)) (first_word_is s.0) }
 
-servers_again : (v : Version) (server primary : ℕ) → is_server server ≡ true → is_server primary ≡ true → servers_of (position_word v ++ 32 ∷ (decimal server ++ 32 ∷ decimal primary)) ≡ Some (v, server, primary)
+servers_again : (v : Version) (server primary : ℕ) → is_server server ≡ true → is_server primary ≡ true
+    → servers_of (position_word v ++ 32 ∷ (decimal server ++ 32 ∷ decimal primary)) ≡ Some (v, server, primary)
 unfolding servers_of
 servers_again v server primary a b =
     ap (λ (w : Text). servers_under (position_word First) (position_word Second) (w ++ 32 ∷ (decimal server ++ 32 ∷ decimal primary))) (sym (first_word_is v))
@@ -113,9 +117,11 @@ unfolding position_on lines_position
 position_on_lines text = go (cut 10 text) refl
   where
     first : (Text × Text) → Option Position
-    first a = cut 10 a.1 >>= λ b. servers_of a.0 >>= λ servers. parse_commits b.0 >>= λ commits. counts_until_end (whole_lines b.1) >>= λ counts. if_position (record { version = servers.0; server = servers.1; primary = servers.2; commits = commits; counts = counts })
+    first a = cut 10 a.1 >>= λ b. servers_of a.0 >>= λ servers. parse_commits b.0 >>= λ commits. counts_until_end (whole_lines b.1)
+        >>= λ counts. if_position (record { version = servers.0; server = servers.1; primary = servers.2; commits = commits; counts = counts })
 
-    second : (a : Text × Text) (o : Option (Text × Text)) → o ≡ cut 10 a.1 → (o >>= λ b. servers_of a.0 >>= λ servers. parse_commits b.0 >>= λ commits. counts_until_end (whole_lines b.1) >>= λ counts. if_position (record { version = servers.0; server = servers.1; primary = servers.2; commits = commits; counts = counts })) ≡ lines_position (a.0 ∷ whole_lines a.1)
+    second : (a : Text × Text) (o : Option (Text × Text)) → o ≡ cut 10 a.1 → (o >>= λ b. servers_of a.0 >>= λ servers. parse_commits b.0 >>= λ commits. counts_until_end (whole_lines b.1)
+        >>= λ counts. if_position (record { version = servers.0; server = servers.1; primary = servers.2; commits = commits; counts = counts })) ≡ lines_position (a.0 ∷ whole_lines a.1)
     second a None e = sym (ap (λ ls. lines_position (a.0 ∷ ls)) (no_line_left a.1 e))
     second a (Some b) e = sym (ap (λ ls. lines_position (a.0 ∷ ls)) (first_line_is a.1 b.0 b.1 e))
 
@@ -128,8 +134,10 @@ unfolding lines_position parse_commits
 lines_take [] p e = absurd (let f : ◌≡◌ {A = Option Position} None (Some p) = e in cc)
 lines_take (a ∷ []) p e = absurd (let f : ◌≡◌ {A = Option Position} None (Some p) = e in cc)
 lines_take (a ∷ k ∷ vs) p e =
-    let s = bind_some (servers_of a) (λ servers. parse_commits k >>= λ commits. counts_until_end vs >>= λ counts. if_position (record { version = servers.0; server = servers.1; primary = servers.2; commits = commits; counts = counts })) p e in
-    let c = bind_some (parse_commits k) (λ commits. counts_until_end vs >>= λ counts. if_position (record { version = s.0.0; server = s.0.1; primary = s.0.2; commits = commits; counts = counts })) p s.2 in
+    let s = bind_some (servers_of a) (λ servers. parse_commits k >>= λ commits. counts_until_end vs
+    >>= λ counts. if_position (record { version = servers.0; server = servers.1; primary = servers.2; commits = commits; counts = counts })) p e in
+    let c = bind_some (parse_commits k)
+    (λ commits. counts_until_end vs >>= λ counts. if_position (record { version = s.0.0; server = s.0.1; primary = s.0.2; commits = commits; counts = counts })) p s.2 in
     let v = bind_some (counts_until_end vs) (λ counts. if_position (record { version = s.0.0; server = s.0.1; primary = s.0.2; commits = c.0; counts = counts })) p c.2 in
     let made : Position = record { version = s.0.0; server = s.0.1; primary = s.0.2; commits = c.0; counts = v.0 } in
     let ends = only_if_some (is_position made) made p v.2 in
@@ -162,8 +170,10 @@ lines_again p ok =
     let rest : Text = decimal p.server ++ 32 ∷ decimal p.primary in
     let few : within 0 999_999_999_999 p.commits ≡ true = and_from (leb 0 p.commits) (leb p.commits 999_999_999_999) (le-leb 0 p.commits (omega arith)) (le-leb p.commits 999_999_999_999 f.commits) in
     let servers : servers_of (position_word p.version ++ 32 ∷ rest) ≡ Some (p.version, p.server, p.primary) = servers_again p.version p.server p.primary f.server f.primary in
-    let commits : parse_commits (75 ∷ 32 ∷ decimal p.commits) ≡ Some p.commits = ap (λ o. o >>= λ (r : Text). number_from_to 0 999_999_999_999 r) (behind_again (codes "K") (decimal p.commits) (lit≤ tt, tt)) ∙ number_again 0 999_999_999_999 p.commits few (lit< tt) in
-    ap (λ o. o >>= λ (s : Version × ℕ × ℕ). parse_commits (75 ∷ 32 ∷ decimal p.commits) >>= λ commits. counts_until_end vs >>= λ counts. if_position (record { version = s.0; server = s.1; primary = s.2; commits = commits; counts = counts })) servers
+    let commits : parse_commits (75 ∷ 32 ∷ decimal p.commits) ≡ Some p.commits =
+    ap (λ o. o >>= λ (r : Text). number_from_to 0 999_999_999_999 r) (behind_again (codes "K") (decimal p.commits) (lit≤ tt, tt)) ∙ number_again 0 999_999_999_999 p.commits few (lit< tt) in
+    ap (λ o. o >>= λ (s : Version × ℕ × ℕ). parse_commits (75 ∷ 32 ∷ decimal p.commits) >>= λ commits. counts_until_end vs
+    >>= λ counts. if_position (record { version = s.0; server = s.1; primary = s.2; commits = commits; counts = counts })) servers
     ∙ ap (λ o. o >>= λ commits. counts_until_end vs >>= λ counts. if_position (record { version = p.version; server = p.server; primary = p.primary; commits = commits; counts = counts })) commits
     ∙ ap (λ o. o >>= λ counts. if_position (record { version = p.version; server = p.server; primary = p.primary; commits = p.commits; counts = counts })) (counts_again p.counts f.counts)
     ∙ ap (λ b. only_if b p) ok
@@ -211,8 +221,11 @@ counts_one_line : (cs : List Count) → list_all count_ok cs ≡ true → AllByR
 counts_one_line [] ok = tt
 counts_one_line (c ∷ cs) ok =
     let p = and_parts (count_ok c) (list_all count_ok cs) ok in
-    let a = and_parts (is_server c.server) (is_count c.count) p.0 in
-    (words-one_line (codes "V" ∷ decimal c.server ∷ decimal c.count ∷ []) ((lit≤ tt, tt), (number-one_line c.server 99 (within-high 1 99 c.server a.0) (lit< tt), (number-one_line c.count greatest_count (within-high 1 greatest_count c.count a.1) (lit< tt), tt))), counts_one_line cs p.1)
+    let a = and_parts (is_server c.server) (is_count c.count) p.0 in (
+      words-one_line (codes "V" ∷ decimal c.server ∷ decimal c.count ∷ [])
+          ((lit≤ tt, tt), (number-one_line c.server 99 (within-high 1 99 c.server a.0) (lit< tt), (number-one_line c.count greatest_count (within-high 1 greatest_count c.count a.1) (lit< tt), tt))),
+      counts_one_line cs p.1,
+    )
 
 word_one_line : (v : Version) → OneLine (position_word v)
 word_one_line First = (lit≤ tt, (lit≤ tt, (lit≤ tt, tt)))
@@ -225,7 +238,8 @@ word_low Second = (lit< tt, (lit< tt, (lit< tt, tt)))
 one_lines : (p : Position) → is_position p ≡ true → AllByRecursion OneLine (position_lines p)
 one_lines p ok =
     let f = parts p ok in (
-      words-one_line (position_word p.version ∷ decimal p.server ∷ decimal p.primary ∷ []) (word_one_line p.version, (number-one_line p.server 99 (within-high 1 99 p.server f.server) (lit< tt), (number-one_line p.primary 99 (within-high 1 99 p.primary f.primary) (lit< tt), tt))),
+      words-one_line (position_word p.version ∷ decimal p.server ∷ decimal p.primary ∷ [])
+          (word_one_line p.version, (number-one_line p.server 99 (within-high 1 99 p.server f.server) (lit< tt), (number-one_line p.primary 99 (within-high 1 99 p.primary f.primary) (lit< tt), tt))),
       (
         words-one_line (codes "K" ∷ decimal p.commits ∷ []) ((lit≤ tt, tt), (number-one_line p.commits 999_999_999_999 f.commits (lit< tt), tt)),
         all_append OneLine (map count_line p.counts) (codes "E" ∷ []) (counts_one_line p.counts f.counts) ((lit≤ tt, tt), tt),
@@ -236,8 +250,11 @@ counts_low : (cs : List Count) → list_all count_ok cs ≡ true → AllByRecurs
 counts_low [] ok = tt
 counts_low (c ∷ cs) ok =
     let p = and_parts (count_ok c) (list_all count_ok cs) ok in
-    let a = and_parts (is_server c.server) (is_count c.count) p.0 in
-    (words_low (codes "V" ∷ decimal c.server ∷ decimal c.count ∷ []) ((lit< tt, tt), (number_low c.server 99 (within-high 1 99 c.server a.0) (lit< tt), (number_low c.count greatest_count (within-high 1 greatest_count c.count a.1) (lit< tt), tt))), counts_low cs p.1)
+    let a = and_parts (is_server c.server) (is_count c.count) p.0 in (
+      words_low (codes "V" ∷ decimal c.server ∷ decimal c.count ∷ [])
+          ((lit< tt, tt), (number_low c.server 99 (within-high 1 99 c.server a.0) (lit< tt), (number_low c.count greatest_count (within-high 1 greatest_count c.count a.1) (lit< tt), tt))),
+      counts_low cs p.1,
+    )
 
 text_low : (ls : List Text) → AllByRecursion Low ls → Low (lines_text ls)
 text_low [] h = tt
@@ -247,7 +264,8 @@ position_low : (p : Position) → is_position p ≡ true → Low (position_text 
 position_low p ok =
     let f = parts p ok in
     text_low (position_lines p) (
-      words_low (position_word p.version ∷ decimal p.server ∷ decimal p.primary ∷ []) (word_low p.version, (number_low p.server 99 (within-high 1 99 p.server f.server) (lit< tt), (number_low p.primary 99 (within-high 1 99 p.primary f.primary) (lit< tt), tt))),
+      words_low (position_word p.version ∷ decimal p.server ∷ decimal p.primary ∷ [])
+          (word_low p.version, (number_low p.server 99 (within-high 1 99 p.server f.server) (lit< tt), (number_low p.primary 99 (within-high 1 99 p.primary f.primary) (lit< tt), tt))),
       (
         words_low (codes "K" ∷ decimal p.commits ∷ []) ((lit< tt, tt), (number_low p.commits 999_999_999_999 f.commits (lit< tt), tt)),
         all_append Low (map count_line p.counts) (codes "E" ∷ []) (counts_low p.counts f.counts) ((lit< tt, tt), tt),
@@ -275,4 +293,6 @@ no_end bytes last = go (read_position bytes) refl
   where
     go : (o : Option Position) → read_position bytes ≡ o → read_position bytes ≡ None
     go None e = e
-    go (Some p) e = let t = read_position_text bytes p e in absurd (eqb-false (slice_index bytes (length bytes - 1)) 10 last (subst (λ (b : Text). slice_index b (length b - 1) ≡ 10) (sym t.1) (position_ends p)))
+    go (Some p) e =
+        let t = read_position_text bytes p e in
+        absurd (eqb-false (slice_index bytes (length bytes - 1)) 10 last (subst (λ (b : Text). slice_index b (length b - 1) ≡ 10) (sym t.1) (position_ends p)))

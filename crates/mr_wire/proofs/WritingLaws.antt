@@ -50,7 +50,8 @@ front_then word stamp room x y t e =
     let e2 = behind (decimal stamp.time) (room ++ x) (room ++ y) t e3 in
     let e1 = behind (decimal stamp.n) (decimal stamp.time ++ 32 ∷ (room ++ x)) (decimal stamp.time ++ 32 ∷ (room ++ y)) t e2 in
     let e0 = behind (decimal stamp.server) (decimal stamp.n ++ 32 ∷ (decimal stamp.time ++ 32 ∷ (room ++ x))) (decimal stamp.n ++ 32 ∷ (decimal stamp.time ++ 32 ∷ (room ++ y))) t e1 in
-    behind word (decimal stamp.server ++ 32 ∷ (decimal stamp.n ++ 32 ∷ (decimal stamp.time ++ 32 ∷ (room ++ x)))) (decimal stamp.server ++ 32 ∷ (decimal stamp.n ++ 32 ∷ (decimal stamp.time ++ 32 ∷ (room ++ y)))) t e0
+    behind word (decimal stamp.server ++ 32 ∷ (decimal stamp.n ++ 32 ∷ (decimal stamp.time ++ 32 ∷ (room ++ x))))
+    (decimal stamp.server ++ 32 ∷ (decimal stamp.n ++ 32 ∷ (decimal stamp.time ++ 32 ∷ (room ++ y)))) t e0
 
 front_is : (word : Text) (stamp : Stamp) (room t : Text) → front_text word stamp room ++ t ≡ fronted word stamp room t
 unfolding front_text fronted
@@ -58,7 +59,8 @@ front_is word stamp room t =
     let e2 = behind (decimal stamp.time) room (room ++ t) t refl in
     let e1 = behind (decimal stamp.n) (decimal stamp.time ++ 32 ∷ room) (decimal stamp.time ++ 32 ∷ (room ++ t)) t e2 in
     let e0 = behind (decimal stamp.server) (decimal stamp.n ++ 32 ∷ (decimal stamp.time ++ 32 ∷ room)) (decimal stamp.n ++ 32 ∷ (decimal stamp.time ++ 32 ∷ (room ++ t))) t e1 in
-    behind word (decimal stamp.server ++ 32 ∷ (decimal stamp.n ++ 32 ∷ (decimal stamp.time ++ 32 ∷ room))) (decimal stamp.server ++ 32 ∷ (decimal stamp.n ++ 32 ∷ (decimal stamp.time ++ 32 ∷ (room ++ t)))) t e0
+    behind word (decimal stamp.server ++ 32 ∷ (decimal stamp.n ++ 32 ∷ (decimal stamp.time ++ 32 ∷ room)))
+    (decimal stamp.server ++ 32 ∷ (decimal stamp.n ++ 32 ∷ (decimal stamp.time ++ 32 ∷ (room ++ t)))) t e0
 
 -- a write's line of its word, its stamp, its room and what stands behind these
 line_text_is : (word : Text) (stamp : Stamp) (room rest end text : Text) → text ≡ fronted word stamp room (32 ∷ rest) → rest ++ 10 ∷ [] ≡ end → front_text word stamp room ++ 32 ∷ end ≡ line text

@@ -6,4 +6,5 @@ use Rattle.mr_audit.proofs.cancels.are_done.Given as goal
 
 -- all are where the rows that are left are
 abbrev pub invariant-loop-row : goal.invariant-loop-row
-invariant-loop-row l = list_all (λ (c : CancelRow). not c.done || list_any (is_taken_by c) l.tables.cancelled) l.rows ≡ list_all (λ (c : CancelRow). not c.done || list_any (is_taken_by c) l.tables.cancelled) (drop l.row-index l.rows)
+invariant-loop-row l = list_all (λ (c : CancelRow). not c.done || list_any (is_taken_by c) l.tables.cancelled) l.rows
+    ≡ list_all (λ (c : CancelRow). not c.done || list_any (is_taken_by c) l.tables.cancelled) (drop l.row-index l.rows)

@@ -6,4 +6,5 @@ use Rattle.mr_audit.proofs.cancels.are_taken_back.Given as goal
 
 -- all are where the rows that are left are
 abbrev pub invariant-loop-row : goal.invariant-loop-row
-invariant-loop-row l = list_all (λ (row : CancelledRow). list_any (λ c. is_taken_by c row) l.tables.cancels) l.rows ≡ list_all (λ (row : CancelledRow). list_any (λ c. is_taken_by c row) l.tables.cancels) (drop l.row-index l.rows)
+invariant-loop-row l = list_all (λ (row : CancelledRow). list_any (λ c. is_taken_by c row) l.tables.cancels) l.rows
+    ≡ list_all (λ (row : CancelledRow). list_any (λ c. is_taken_by c row) l.tables.cancels) (drop l.row-index l.rows)

@@ -15,7 +15,8 @@ returns-in-Some c =
     let found = c.in-Some.row.now in
     let h = c.in-Some.ensures in
     c.is_taken_by.ensures
-    ∙ sym (one_passes cancelled_id id (is_taken_by c.args.cancel.now) (λ x e. target_of c.args.cancel.now x e) t.cancelled found c.requires.cancelled (subst (λ (rs : List CancelledRow). Has found rs) rows h.0) (h.1 ∙ (ap (λ (r : CancelRow). r.target) c.cancel.view_is)))
+    ∙ sym (one_passes cancelled_id id (is_taken_by c.args.cancel.now) (λ x e. target_of c.args.cancel.now x e) t.cancelled found c.requires.cancelled
+    (subst (λ (rs : List CancelledRow). Has found rs) rows h.0) (h.1 ∙ (ap (λ (r : CancelRow). r.target) c.cancel.view_is)))
 
 pub returns-in-None : goal.returns-in-None
 returns-in-None c =

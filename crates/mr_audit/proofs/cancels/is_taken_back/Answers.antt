@@ -15,7 +15,8 @@ returns-in-Some c =
     let found = c.in-Some.cancel.now in
     let h = c.in-Some.ensures in
     c.is_taken_by.ensures
-    ∙ sym (one_passes cancel_id id (λ x. is_taken_by x c.args.row.now) (λ x e. canceller_of x c.args.row.now e) t.cancels found c.requires.cancels (subst (λ (rs : List CancelRow). Has found rs) rows h.0) (h.1 ∙ (ap (λ (r : CancelledRow). r.by) c.row.view_is)))
+    ∙ sym (one_passes cancel_id id (λ x. is_taken_by x c.args.row.now) (λ x e. canceller_of x c.args.row.now e) t.cancels found c.requires.cancels
+    (subst (λ (rs : List CancelRow). Has found rs) rows h.0) (h.1 ∙ (ap (λ (r : CancelledRow). r.by) c.row.view_is)))
 
 pub returns-in-None : goal.returns-in-None
 returns-in-None c =

@@ -6,4 +6,5 @@ use Rattle.mr_audit.proofs.log.are_undropped.Given as goal
 
 -- all pass where the rows that are left do
 abbrev pub invariant-loop-row : goal.invariant-loop-row
-invariant-loop-row l = list_all (λ (row : LogRow). not (within 1 l.tables.meta.dropped row.seq)) l.rows ≡ list_all (λ (row : LogRow). not (within 1 l.tables.meta.dropped row.seq)) (drop l.row-index l.rows)
+invariant-loop-row l = list_all (λ (row : LogRow). not (within 1 l.tables.meta.dropped row.seq)) l.rows
+    ≡ list_all (λ (row : LogRow). not (within 1 l.tables.meta.dropped row.seq)) (drop l.row-index l.rows)

@@ -15,7 +15,8 @@ returns-in-Some c =
     let found = c.in-Some.cancel.now in
     let h = c.in-Some.ensures in
     c.is_same_cancel.ensures
-    ∙ sym (one_passes cancel_id (log_id c.args.row.now) (same_cancel row) (λ r e. id_first (cancel_id row) (cancel_id r) _ _ _ _ _ e) t.cancels found c.requires.cancels (subst (λ (rs : List CancelRow). Has found rs) rows h.0) (h.1 ∙ c.id.ensures))
+    ∙ sym (one_passes cancel_id (log_id c.args.row.now) (same_cancel row) (λ r e. id_first (cancel_id row) (cancel_id r) _ _ _ _ _ e) t.cancels found c.requires.cancels
+    (subst (λ (rs : List CancelRow). Has found rs) rows h.0) (h.1 ∙ c.id.ensures))
 
 pub returns-in-None : goal.returns-in-None
 returns-in-None c =

@@ -16,7 +16,8 @@ returns-in-Some c =
     let found = c.in-Some.booked.now in
     let h = c.in-Some.ensures in
     c.is_same_booking.ensures
-    ∙ sym (one_passes booking_id (log_id c.args.row.now) (same_booking row) (λ r e. id_first (booking_id row) (booking_id r) _ _ _ _ _ e) t.booking found c.requires.booking (subst (λ (rs : List BookingRow). Has found rs) rows h.0) (h.1 ∙ c.id.ensures))
+    ∙ sym (one_passes booking_id (log_id c.args.row.now) (same_booking row) (λ r e. id_first (booking_id row) (booking_id r) _ _ _ _ _ e) t.booking found c.requires.booking
+    (subst (λ (rs : List BookingRow). Has found rs) rows h.0) (h.1 ∙ c.id.ensures))
 
 pub returns-in-None : goal.returns-in-None
 returns-in-None c =

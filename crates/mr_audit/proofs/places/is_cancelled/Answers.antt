@@ -16,7 +16,8 @@ returns-in-Some c =
     let found = c.in-Some.cancelled.now in
     let h = c.in-Some.ensures in
     (c.is_same_booking.ensures ∙ ap (λ (r : CancelledRow). same_booking row (as_booked r)) c.cancelled.view_is)
-    ∙ sym (one_passes cancelled_id (log_id c.args.row.now) (λ r. same_booking row (as_booked r)) (λ r e. id_first (booking_id row) (cancelled_id r) _ _ _ _ _ e) t.cancelled found c.requires.cancelled (subst (λ (rs : List CancelledRow). Has found rs) rows h.0) (h.1 ∙ c.id.ensures))
+    ∙ sym (one_passes cancelled_id (log_id c.args.row.now) (λ r. same_booking row (as_booked r)) (λ r e. id_first (booking_id row) (cancelled_id r) _ _ _ _ _ e)
+    t.cancelled found c.requires.cancelled (subst (λ (rs : List CancelledRow). Has found rs) rows h.0) (h.1 ∙ c.id.ensures))
 
 pub returns-in-None : goal.returns-in-None
 returns-in-None c =

@@ -16,7 +16,8 @@ returns-in-Some c =
     let found = c.in-Some.error.now in
     let h = c.in-Some.ensures in
     c.is_same_error.ensures
-    ∙ sym (one_passes error_id (log_id c.args.row.now) (same_error row) (λ r e. id_first_of_seven (error_id row) (error_id r) _ _ _ _ _ _ e) t.errorlog found c.requires.errorlog (subst (λ (rs : List ErrorRow). Has found rs) rows h.0) (h.1 ∙ c.id.ensures))
+    ∙ sym (one_passes error_id (log_id c.args.row.now) (same_error row) (λ r e. id_first_of_seven (error_id row) (error_id r) _ _ _ _ _ _ e) t.errorlog found c.requires.errorlog
+    (subst (λ (rs : List ErrorRow). Has found rs) rows h.0) (h.1 ∙ c.id.ensures))
 
 pub returns-in-None : goal.returns-in-None
 returns-in-None c =

@@ -17,7 +17,8 @@ returns c =
     let cancels = map (λ (row : CancelRow). row.room) t.cancels ++ logs in
     let cancelled = map (λ (row : CancelledRow). row.room) t.cancelled ++ cancels in
     let errors = map (λ (row : ErrorRow). row.room) t.errorlog ++ cancelled in
-    c.are_rooms_known.ensures (λ yes. subst (λ (names : List Text). Rise text_before (λ (name : Text). name) names) (c.deref.ensures.value ∙ ap (λ (x : Tables). x.room) c.tables.view_is) (c.are_rooms_rising-is_sorted.ensures.0 yes))
+    c.are_rooms_known.ensures (λ yes. subst (λ (names : List Text). Rise text_before (λ (name : Text). name) names)
+    (c.deref.ensures.value ∙ ap (λ (x : Tables). x.room) c.tables.view_is) (c.are_rooms_rising-is_sorted.ensures.0 yes))
     ∙ sym (all_mapped known (λ (row : BookingRow). row.room) t.booking errors
     ∙ ap (λ b. list_all (λ row. known row.room) t.booking && b) (all_mapped known (λ (row : ErrorRow). row.room) t.errorlog cancelled
     ∙ ap (λ b. list_all (λ row. known row.room) t.errorlog && b) (all_mapped known (λ (row : CancelledRow). row.room) t.cancelled cancels

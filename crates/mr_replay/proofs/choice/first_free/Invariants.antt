@@ -8,5 +8,6 @@ use Rattle.mr_replay.proofs.choice.first_free.Given as goal
 abbrev pub invariant-loop-slot : goal.invariant-loop-slot
 invariant-loop-slot g l = record {
   counted : l.k ≡ l.slot-index;
-  left : first_free (bookings_of l.room (g.B.Bookings.rows l.board)) l.meeting.length 0 (choices_of l.meeting) ≡ first_free (bookings_of l.room (g.B.Bookings.rows l.board)) l.meeting.length (l.k + 1) (drop l.slot-index l.slot-items);
+  left : first_free (bookings_of l.room (g.B.Bookings.rows l.board)) l.meeting.length 0 (choices_of l.meeting)
+      ≡ first_free (bookings_of l.room (g.B.Bookings.rows l.board)) l.meeting.length (l.k + 1) (drop l.slot-index l.slot-items);
 }

@@ -9,7 +9,8 @@ use Rattle.mr_tables.proofs.reading.booking_of.Goals as goal
 pub returns-in-Err-clause-read : goal.returns-in-Err-clause-read
 returns-in-Err-clause-read c = λ m ok e.
     let text = c.as_str.ensures.value ∙ ap (λ (r : MeetingCells). r.choices) (c.cells.view_is ∙ e) in
-    refused (m.wish, m.alternatives) (record { stamp = c.args.stamp; room = c.args.room.now; action = Books m }) c.in-Err.refusal (c.in-Err.ensures.read m.wish m.alternatives (text_of_meeting m c.as_str.result.now ok text))
+    refused (m.wish, m.alternatives) (record { stamp = c.args.stamp; room = c.args.room.now; action = Books m }) c.in-Err.refusal
+    (c.in-Err.ensures.read m.wish m.alternatives (text_of_meeting m c.as_str.result.now ok text))
 
 pub returns-in-Ok-clause-read : goal.returns-in-Ok-clause-read
 returns-in-Ok-clause-read c = λ m ok e.

@@ -19,7 +19,8 @@ rest-preserved c = record {
       subst (λ read. IsUnderWay ss read (lent c.in-Some-next_slot.taken.1)) (sym c.in_ok-push-in-Some-next_slot.ensures.items)
       (behind_one ss c.rest.slots.items others s _ _ e gives.0 gives.1);
   told = λ left h. subst (λ read. IsRestOf (lent c.args.text) (read ++ left)) (sym c.in_ok-push-in-Some-next_slot.ensures.items)
-      (told_one (lent c.args.text) (lent c.rest.rest) (lent c.in-Some-next_slot.taken.1) c.in-Some.text.now c.rest.slots.items c.in-Some-next_slot.taken.0 left (ap lent c.in-Some.is) c.rest.invariant.told (c.in-Some-next_slot.ensures.told left h));
+      (told_one (lent c.args.text) (lent c.rest.rest) (lent c.in-Some-next_slot.taken.1) c.in-Some.text.now c.rest.slots.items c.in-Some-next_slot.taken.0 left
+      (ap lent c.in-Some.is) c.rest.invariant.told (c.in-Some-next_slot.ensures.told left h));
   utf8 = c.in-Some-next_slot.ensures.utf8;
 }
 

@@ -15,4 +15,5 @@ loop-k-preserved c = λ small.
     let so_far = c.loop-k.invariant small in
     c.in_ok-add_rows.ensures.rows
     ∙ (λ i. with_write_rows (so_far i) c.args.summary.now.commits (number i) write row by)
-    ∙ written-more (meta_of c.args.summary.now) c.args.room.items c.args.vector.items c.args.summary.now.commits c.args.first k c.args.writes.now c.args.rows.now c.args.bys.now write row by (sym c.requires.0) (sym c.requires.1) (omega arith) c.index-writes-k.is c.index-rows-k.is c.index-bys-k.is
+    ∙ written-more (meta_of c.args.summary.now) c.args.room.items c.args.vector.items c.args.summary.now.commits c.args.first k c.args.writes.now
+    c.args.rows.now c.args.bys.now write row by (sym c.requires.0) (sym c.requires.1) (omega arith) c.index-writes-k.is c.index-rows-k.is c.index-bys-k.is

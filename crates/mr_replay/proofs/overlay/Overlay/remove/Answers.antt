@@ -13,7 +13,8 @@ invariant_of-self c = same_set c.self.inside.base c.self.inside.own c.self.insid
 pub invariant_of-self-2 : goal.invariant_of-self-2
 invariant_of-self-2 c =
     let o = c.self.inside in
-    subst (CanOverlay o.base c.insert.new.self) (sym c.remove.ensures) (can-removed o.base o.own o.hidden c.insert.new.self c.args.id c.self.invariant (hides_more c.args.id o.hidden c.insert.new.self c.in_ok-insert.ensures.updates.0))
+    subst (CanOverlay o.base c.insert.new.self) (sym c.remove.ensures)
+    (can-removed o.base o.own o.hidden c.insert.new.self c.args.id c.self.invariant (hides_more c.args.id o.hidden c.insert.new.self c.in_ok-insert.ensures.updates.0))
 
 pub returns-clause-ok : goal.returns-clause-ok
 returns-clause-ok c =
