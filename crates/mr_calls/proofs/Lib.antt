@@ -1,2 +1,4 @@
 pub mod CallChains
 pub mod WayCalls
+pub mod TaskChains
+pub mod MadeDatabases
