@@ -1,0 +1,4 @@
+pub mod FindLemmas
+pub mod IndexLemmas
+pub mod PutLemmas
+pub mod StepLemmas
