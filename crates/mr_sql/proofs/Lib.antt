@@ -1,4 +1,5 @@
 pub mod CreateLemmas
+pub mod AgainLemmas
 pub mod AnswerLemmas
 pub mod QuestionLemmas
 pub mod OpeningLemmas

@@ -4,6 +4,7 @@
 #![tactic(auto)]
 
 mod adopt;
+mod again;
 mod answers;
 mod create;
 mod create_first;
