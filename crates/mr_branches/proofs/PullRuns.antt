@@ -21,13 +21,13 @@ use Rattle.mr_service.specs.Served.{IsServed}
 use Rattle.mr_offices.specs.Offices.{Act, Within, Give, IsDone, IsOfficeStep, ended, stepped}
 use Rattle.mr_offices.specs.OfficeLaws.{Hears, IsCount}
 use Rattle.mr_offices.specs.Standing.{Sight, Office, Offices, StandFor}
-use Rattle.mr_offices.specs.Happenings.{IsAsked, batch_heard, texts_with, IsCalled, office_after, offices_after}
+use Rattle.mr_offices.specs.Happenings.{IsAsked, batch_heard, texts_with, IsCalled, IsRefusedAnywhere, office_after, offices_after}
 use Rattle.mr_offices.proofs.Carrying.{front_taken}
 use Rattle.mr_offices.proofs.OfficeSteps.{office_step_kept}
 use Rattle.mr_offices.proofs.Standing.{At, found_by, office_at}
 use Rattle.mr_offices.proofs.Calling.{calls_are_acts}
 use Rattle.mr_branches.specs.Sights.{sight_of}
-use Rattle.mr_branches.proofs.Heard.{given_as_made, heard_done, made_is_reply, machine_isnt_position, position_told}
+use Rattle.mr_branches.proofs.Heard.{given_as_made, heard_done, made_is_reply, position_told}
 use Rattle.mr_branches.specs.Pulling.{IsRound, PullsBetween, PushesBetween, acts_of_pull, acts_of_push}
 use Rattle.mr_branches.proofs.Served.{served_is_called}
 
@@ -77,7 +77,7 @@ gave_batch r q text m gave (inl e) is =
 
 -- ---- a pull
 
-module _ {K : Type 0} (k : Ghosts K) (v : Offices K) (w : World) (client server : ℕ) (oc os : Office K) (h : IsHonest w) (st : StandFor (sight_of k) v w) (ec : slice_get v.offices client ≡ Some oc) (es : slice_get v.offices server ≡ Some os) (apart : client ≡ server → ⊥) (uc : oc.pending ≡ None) (us : os.pending ≡ None) where
+module _ {K : Type 0} (k : Ghosts K) (v : Offices K) (w : World) (client server : ℕ) (oc os : Office K) (h : IsHonest w) (st : StandFor (sight_of k) v w) (ec : slice_get v.offices client ≡ Some oc) (es : slice_get v.offices server ≡ Some os) (apart : client ≡ server → ⊥) where
   abbrev sight : Sight K
   sight = sight_of k
 
@@ -94,12 +94,6 @@ module _ {K : Type 0} (k : Ghosts K) (v : Offices K) (w : World) (client server 
   abbrev ac : At sight v.offices w.replicas client oc
   ac = office_at sight v.offices w.replicas client oc st.offices ec
 
-  open_c : k.is_open oc.keeper
-  open_c = ac.is.up uc
-
-  open_s : k.is_open os.keeper
-  open_s = (office_at sight v.offices w.replicas server os st.offices es).is.up us
-
   found_c : replica_of w oc.server ≡ Some ac.replica
   found_c = ap (λ s. replica_of w s) ac.is.server ∙ found_by w.replicas client ac.replica h.different_servers ac.at
 
@@ -115,7 +109,7 @@ module _ {K : Type 0} (k : Ghosts K) (v : Offices K) (w : World) (client server 
     a1 = Within (Do oc.server AskPosition)
 
     one : (end : World) × IsOfficeStep w a1 (Some (Said told)) end × StandFor sight v1 end
-    one = calls_are_acts sight v w client oc asked AskPosition told h st ec tt (served_is_called k oc.keeper asked AskPosition told first clean open_c)
+    one = calls_are_acts sight v w client oc asked AskPosition told h st ec tt (served_is_called k oc.keeper asked AskPosition told first clean)
 
     abbrev w1 : World
     w1 = one.0
@@ -148,7 +142,7 @@ module _ {K : Type 0} (k : Ghosts K) (v : Offices K) (w : World) (client server 
       v2 = offices_after v1 server os new (lacking p) gave
 
       call2 : IsCalled sight os.keeper new (lacking p) gave
-      call2 = served_is_called k os.keeper new (lacking p) gave second clean_new open_s
+      call2 = served_is_called k os.keeper new (lacking p) gave second clean_new
 
       -- that of the client's replica, which stays
       position : (p ≡ position_of ac.replica) × (replica_of w1 oc.server ≡ Some ac.replica)
@@ -197,14 +191,18 @@ module _ {K : Type 0} (k : Ghosts K) (v : Offices K) (w : World) (client server 
       -- and the client receives a prefix of it
       module _ (last : K) (bytes : ℕ) (took : Reply) (third : IsServed k asked last (Receive (take bytes (response_of gave).body)) took) (ok : (response_of gave).status ≡ 200) (clean_last : k.is_clean last) where
         given : (b : Batch) × (gave ≡ BatchIs b)
-        given = go call2.lasts
+        given = go call2.answered
           where
-            go : IsOfMachine gave ⊎ k.is_open new → (b : Batch) × (gave ≡ BatchIs b)
-            go (inl machine) = absurd (machine_not machine ok)
-            go (inr now) =
+            by : k.is_open os.keeper → IsOfMachine gave ⊎ k.is_open new → (b : Batch) × (gave ≡ BatchIs b)
+            by was_open (inl machine) = absurd (machine_not machine ok)
+            by was_open (inr now) =
                 let a = office_at sight v1.offices w1.replicas server os one.2.offices es1 in
-                let (q, step, stands) = call2.step now a.replica (a.is.stands open_s) in
+                let (q, step, stands) = call2.step now a.replica (a.is.stands was_open) in
                 gave_batch a.replica q (position_text p) lines_over_http gave step ok
+
+            go : k.is_open os.keeper ⊎ IsRefusedAnywhere (lacking p) gave → (b : Batch) × (gave ≡ BatchIs b)
+            go (inl was_open) = by was_open (call2.lasts was_open)
+            go (inr (e, refuses, all)) = absurd (refused_not e (subst (λ x. (response_of x).status ≡ 200) refuses ok))
 
         abbrev number : ℕ
         number = length v.texts + 1
@@ -225,9 +223,6 @@ module _ {K : Type 0} (k : Ghosts K) (v : Offices K) (w : World) (client server 
         abbrev c3 : Command
         c3 = Receive (take bytes (response_of gave).body)
 
-        opened : k.is_open asked
-        opened = elim (first.lasts clean open_c) [ inl machine ↦ absurd (machine_isnt_position machine p is) | inr now ↦ now ]
-
         abbrev oc3 : Office K
         oc3 = office_after oc1 last c3 took
 
@@ -239,7 +234,7 @@ module _ {K : Type 0} (k : Ghosts K) (v : Offices K) (w : World) (client server 
 
         three : (end : World) × IsOfficeStep w2 a3 (Some (Said took)) end × StandFor sight v3 end
         unfolding from
-        three = calls_are_acts sight v2 w2 client oc1 last c3 took h2 two.2 ec2 from (served_is_called k asked last c3 took third clean_last opened)
+        three = calls_are_acts sight v2 w2 client oc1 last c3 took h2 two.2 ec2 from (served_is_called k asked last c3 took third clean_last)
 
         made : IsDone w1 given2 (Made number size) w2
         made = heard_done w1 w2 given2 (Made number size) (made_is_reply number size) (subst (λ g. IsOfficeStep w1 given2 (Some (batch_heard v.texts g)) w2) given.1 two_given)
@@ -293,7 +288,7 @@ module _ {K : Type 0} (k : Ghosts K) (v : Offices K) (w : World) (client server 
 
 -- ---- a push
 
-module _ {K : Type 0} (k : Ghosts K) (v : Offices K) (w : World) (client server : ℕ) (oc os : Office K) (h : IsHonest w) (st : StandFor (sight_of k) v w) (ec : slice_get v.offices client ≡ Some oc) (es : slice_get v.offices server ≡ Some os) (apart : client ≡ server → ⊥) (uc : oc.pending ≡ None) (us : os.pending ≡ None) (position : Position) where
+module _ {K : Type 0} (k : Ghosts K) (v : Offices K) (w : World) (client server : ℕ) (oc os : Office K) (h : IsHonest w) (st : StandFor (sight_of k) v w) (ec : slice_get v.offices client ≡ Some oc) (es : slice_get v.offices server ≡ Some os) (apart : client ≡ server → ⊥) (position : Position) where
   abbrev Pushed : K → K → Type 0
   Pushed new_client new_server =
       (done number bytes : ℕ) × (heard : List (Option StepReply))
@@ -323,7 +318,7 @@ module _ {K : Type 0} (k : Ghosts K) (v : Offices K) (w : World) (client server 
     given_one : (end : World) × IsOfficeStep w p1 (Some heard1) end × StandFor (sight_of k) push1 end
     given_one =
         calls_are_acts (sight_of k) v w client oc new (lacking position) gave h st ec tt
-        (served_is_called k oc.keeper new (lacking position) gave first clean ((office_at (sight_of k) v.offices w.replicas client oc st.offices ec).is.up uc))
+        (served_is_called k oc.keeper new (lacking position) gave first clean)
 
     honest_then : IsHonest given_one.0
     honest_then = (office_step_kept w given_one.0 p1 (Some heard1) h given_one.1).0
@@ -369,7 +364,7 @@ module _ {K : Type 0} (k : Ghosts K) (v : Offices K) (w : World) (client server 
       unfolding from_client given_one
       taken_two =
           calls_are_acts (sight_of k) push1 given_one.0 server os last (Receive (batch_text b)) took honest_then given_one.2 there from_client
-          (served_is_called k os.keeper last (Receive (batch_text b)) took second clean_last ((office_at (sight_of k) v.offices w.replicas server os st.offices es).is.up us))
+          (served_is_called k os.keeper last (Receive (batch_text b)) took second clean_last)
 
       abbrev ps2 : Office K
       ps2 = office_after os last (Receive (batch_text b)) took

@@ -1,5 +1,5 @@
 -- A round of an exchange between two databases, of any keepers, as calls of these; and, of keepers of one kind, as a run of two offices.
-use Rattle.std.specs.Prelude.{◌≡◌, ◌⊎◌, ℕ, List, [], ◌∷◌, take, Option, Some, None, slice_get}
+use Rattle.std.specs.Prelude.{◌≡◌, ◌⊎◌, ℕ, List, [], ◌∷◌, take, Option, Some, slice_get}
 use Rattle.mr_model.specs.Http.{lines_over_http, response_of}
 use Rattle.mr_model.specs.Positions.{Position, position_text}
 use Rattle.mr_model.specs.Exchange.{Batch, batch_text}
@@ -67,13 +67,12 @@ pub record IsRound {K : Type 0} (sight : Sight K) (w : World) (acts : List Act) 
   pub here : IsKeptAt after client new_client
   pub there : IsKeptAt after server new_server
 
--- Each pull between two offices that no failure has left in doubt is a run of its first acts, if nobody else has written their files and the disks have
--- returned what was written. What the client receives, it takes: there is no gap.
+-- Each pull between two offices, whatever is in doubt there, is a run of its first acts, if nobody else has written their files and the disks have returned
+-- what was written. What the client receives, it takes: there is no gap.
 abbrev pub PullsAreRuns : {K : Type 0} → Ghosts K → Sight K → Type 0
 PullsAreRuns {K} keeper sight =
     (v : Offices K) (w : World) (client server : ℕ) (oc os : Office K) (new_client new_server : K)
     → IsHonest w → StandFor sight v w → slice_get v.offices client ≡ Some oc → slice_get v.offices server ≡ Some os → ¬ (client ≡ server)
-    → oc.pending ≡ None → os.pending ≡ None
     → PullsBetween keeper keeper oc.keeper new_client os.keeper new_server → keeper.is_clean new_client → keeper.is_clean new_server
     → (done number bytes : ℕ) × (heard : List (Option StepReply))
     × IsRound sight w (take done (acts_of_pull oc.server os.server number bytes)) heard client new_client server new_server
@@ -84,7 +83,6 @@ abbrev pub PushesAreRuns : {K : Type 0} → Ghosts K → Sight K → Type 0
 PushesAreRuns {K} keeper sight =
     (v : Offices K) (w : World) (client server : ℕ) (oc os : Office K) (position : Position) (new_client new_server : K)
     → IsHonest w → StandFor sight v w → slice_get v.offices client ≡ Some oc → slice_get v.offices server ≡ Some os → ¬ (client ≡ server)
-    → oc.pending ≡ None → os.pending ≡ None
     → PushesBetween keeper keeper position oc.keeper new_client os.keeper new_server → keeper.is_clean new_client → keeper.is_clean new_server
     → (done number bytes : ℕ) × (heard : List (Option StepReply))
     × IsRound sight w (take done (acts_of_push oc.server os.server position number bytes)) heard client new_client server new_server

@@ -1,21 +1,21 @@
 -- Commands that were asked of a database in turn, as calls of it, and as happenings.
-use Rattle.std.proofs.Common.{◌≡◌, refl, sym, ap, subst, ℕ, zero, suc, List, [], ◌∷◌, ◌++◌, ◌⊎◌, inl, inr, Option, Some, None}
+use Rattle.std.proofs.Common.{◌≡◌, refl, sym, ap, subst, ℕ, zero, suc, List, [], ◌∷◌, ◌++◌, Option, Some, None}
 use Rattle.mr_model.proofs.UniqueReplay.{some_inj}
 use Rattle.std.specs.List.{slice_get, slice_set}
 use Rattle.mr_model.specs.Texts.{Text}
 use Rattle.mr_model.specs.Exchange.{batch_text}
-use Rattle.mr_model.specs.Refusals.{Refusal, OutOfMemory, Store}
-use Rattle.mr_model.specs.Replies.{Reply, BatchIs, Refused}
-use Rattle.mr_model.specs.Step.{Command, Receive, BatchFor, IsOfMachine, no_memory, no_store}
+use Rattle.mr_model.specs.Replies.{Reply, BatchIs}
+use Rattle.mr_model.specs.Step.{Command, Receive, BatchFor}
 use Rattle.mr_model.specs.World.{batch_numbered}
 use Rattle.mr_store.specs.declared.keeper.Keeper.{Ghosts}
 use Rattle.mr_net.specs.AskedInTurn.{InTurn}
 use Rattle.mr_offices.specs.Standing.{Sight}
-use Rattle.mr_offices.specs.Happenings.{AreHappenings, nothing, called, IsAsked, act_of, offices_after, office_after, pending_after, texts_after, texts_with}
+use Rattle.mr_offices.specs.Happenings.{AreHappenings, nothing, called, IsAsked, act_of, offices_after, office_after, texts_after, texts_with}
 use Rattle.mr_branches.specs.Sights.{sight_of}
 use Rattle.mr_branches.proofs.PullRuns.{get_set}
 use Rattle.mr_branches.proofs.Served.{served_is_called}
 use Rattle.mr_calls.specs.Calls.{AreAsked, AreCalls, CallsHappen, acts_of, doubt_after, heard_of, offices_behind, texts_behind}
+use Rattle.mr_calls.specs.CommandCalls.{StopsAtFailure}
 
 -- ---- commands in turn
 
@@ -24,43 +24,16 @@ clean_before : {K : Type 0} (k : Ghosts K) (old new : K) (calls : List (Command 
 clean_before k old new [] same clean = subst (λ x. k.is_clean x) same clean
 clean_before k old new (c ∷ calls) (m, served, known, rest) clean = served.clean (clean_before k m new calls rest clean)
 
--- behind 24 and 25, and behind them alone, the command is in doubt
-machine_doubts : (c : Command) (reply : Reply) → IsOfMachine reply → pending_after c reply ≡ None → ⊥
-machine_doubts c reply no_memory e = let z : ◌≡◌ {A = Option Command} (Some c) None = e in cc
-machine_doubts c reply no_store e = let z : ◌≡◌ {A = Option Command} (Some c) None = e in cc
-
--- another refusal leaves nothing in doubt
-refusal_known : (c : Command) (e : Refusal) → (IsOfMachine (Refused e) → ⊥) → pending_after c (Refused e) ≡ None
-refusal_known c OutOfMemory heard = absurd (heard no_memory)
-refusal_known c Store heard = absurd (heard no_store)
-refusal_known c _ heard = refl
-
--- no other reply does
-heard_known : (c : Command) (reply : Reply) → (IsOfMachine reply → ⊥) → pending_after c reply ≡ None
-heard_known c (Refused e) heard = refusal_known c e heard
-heard_known c _ heard = refl
-
--- behind another reply the database is open
-pub known_opens : (c : Command) (reply : Reply) (Opens : Type 0) → pending_after c reply ≡ None → IsOfMachine reply ⊎ Opens → Opens
-known_opens c reply Opens known (inr is) = is
-known_opens c reply Opens known (inl machine) = absurd (machine_doubts c reply machine known)
-
 -- they are calls
-pub in_turn_calls : {K : Type 0} (k : Ghosts K) (old new : K) (calls : List (Command × Reply)) → InTurn k old calls new → k.is_clean new → k.is_open old
-    → AreCalls (sight_of k) old calls new
-in_turn_calls k old new [] same clean opened = same
-in_turn_calls k old new (c ∷ calls) (m, served, inl heard, rest) clean opened =
-    let clean_m = clean_before k m new calls rest clean in
-    let known = heard_known c.0 c.1 heard in
-    let open_m = known_opens c.0 c.1 (k.is_open m) known (served.lasts clean_m opened) in
-    (m, served_is_called k old m c.0 c.1 served clean_m opened, inl known, in_turn_calls k m new calls rest clean open_m)
-in_turn_calls k old new (c ∷ calls) (m, served, inr last, rest) clean opened =
-    let clean_m = clean_before k m new calls rest clean in
-    (m, served_is_called k old m c.0 c.1 served clean_m opened, inr last, ended calls last rest)
-  where
-    ended : (calls : List (Command × Reply)) → calls ≡ [] → InTurn k m calls new → AreCalls (sight_of k) m calls new
-    ended [] e same = same
-    ended (d ∷ ds) e more = absurd (let z : ◌≡◌ {A = List (Command × Reply)} (d ∷ ds) [] = e in cc)
+pub in_turn_calls : {K : Type 0} (k : Ghosts K) (old new : K) (calls : List (Command × Reply)) → InTurn k old calls new → k.is_clean new → AreCalls (sight_of k) old calls new
+in_turn_calls k old new [] same clean = same
+in_turn_calls k old new (c ∷ calls) (m, served, known, rest) clean =
+    (m, served_is_called k old m c.0 c.1 served (clean_before k m new calls rest clean), in_turn_calls k m new calls rest clean)
+
+-- and stop behind 24 and 25
+pub in_turn_stops : {K : Type 0} (k : Ghosts K) (old new : K) (calls : List (Command × Reply)) → InTurn k old calls new → StopsAtFailure calls
+in_turn_stops k old new [] same = tt
+in_turn_stops k old new (c ∷ calls) (m, served, known, rest) = (known, in_turn_stops k m new calls rest)
 
 -- ---- happenings
 
@@ -130,20 +103,15 @@ set_twice (z ∷ xs) (suc n) x y = ap (λ zs. z ∷ zs) (set_twice xs n x y)
 
 -- calls of the office in a place are happenings
 pub calls_happen : {K : Type 0} (sight : Sight K) → CallsHappen sight
-calls_happen sight v place o [] new at up asked same =
+calls_happen sight v place o [] new at asked same =
     subst (λ x. AreHappenings sight v [] [] (record { offices = slice_set v.offices place x; texts = v.texts }))
-    (λ i. record { server = o.server; keeper = sym same i; pending = up i })
+    (λ i. record { server = o.server; keeper = sym same i; pending = o.pending })
     (subst (λ x. AreHappenings sight v [] [] (record { offices = x; texts = v.texts })) (sym (set_same v.offices place o at)) nothing)
-calls_happen sight v place o (c ∷ []) new at up asked (m, call, known, same) =
-    subst (λ k. AreHappenings sight v (acts_of v.texts o.server (c ∷ []) asked) (heard_of v.texts (c ∷ [])) (offices_behind v place o (c ∷ []) k)) (sym same)
-    (called place o m c.0 c.1 at asked.0 call nothing)
-calls_happen sight v place o (c ∷ d ∷ ds) new at up asked (m, call, inl known, rest) =
+calls_happen sight v place o (c ∷ cs) new at asked (m, call, rest) =
     let one = office_after o m c.0 c.1 in
     let later = offices_after v place o m c.0 c.1 in
-    let happened =
-    calls_happen sight later place one (d ∷ ds) new (get_set v.offices place one o at) known (all_asked_after v.texts c.0 c.1 (d ∷ ds) asked.1) rest in
+    let happened = calls_happen sight later place one cs new (get_set v.offices place one o at) (all_asked_after v.texts c.0 c.1 cs asked.1) rest in
     called place o m c.0 c.1 at asked.0 call
-    (subst (λ acts. AreHappenings sight later acts (heard_of later.texts (d ∷ ds)) (offices_behind v place o (c ∷ d ∷ ds) new)) (acts_same v.texts c.0 c.1 o.server (d ∷ ds) asked.1)
-    (subst (λ x. AreHappenings sight later (acts_of later.texts o.server (d ∷ ds) (all_asked_after v.texts c.0 c.1 (d ∷ ds) asked.1)) (heard_of later.texts (d ∷ ds)) (record { offices = x; texts = texts_behind later.texts (d ∷ ds) }))
-    (set_twice v.offices place one (record { server = o.server; keeper = new; pending = doubt_after (d ∷ ds) })) happened))
-calls_happen sight v place o (c ∷ d ∷ ds) new at up asked (m, call, inr last, rest) = absurd (let z : ◌≡◌ {A = List (Command × Reply)} (d ∷ ds) [] = last in cc)
+    (subst (λ acts. AreHappenings sight later acts (heard_of later.texts cs) (offices_behind v place o (c ∷ cs) new)) (acts_same v.texts c.0 c.1 o.server cs asked.1)
+    (subst (λ x. AreHappenings sight later (acts_of later.texts o.server cs (all_asked_after v.texts c.0 c.1 cs asked.1)) (heard_of later.texts cs) (record { offices = x; texts = texts_behind later.texts cs }))
+    (set_twice v.offices place one (record { server = o.server; keeper = new; pending = doubt_after o.pending (c ∷ cs) })) happened))

@@ -1,18 +1,18 @@
 -- What happens at offices, as calls of their databases; and that it is a run of offices.
-use Rattle.std.specs.Prelude.{◌≡◌, ◌≢◌, ℕ, ◌+◌, List, [], ◌∷◌, ◌++◌, length, take, Option, Some, None, ◌⊎◌, slice_get, IsTrue}
+use Rattle.std.specs.Prelude.{◌≡◌, ◌≢◌, ℕ, ◌+◌, List, [], ◌∷◌, ◌++◌, length, map, take, Option, Some, None, ◌⊎◌, slice_get, IsTrue}
 use Rattle.std.specs.List.{AllByRecursion, slice_set}
 use Rattle.mr_model.specs.Texts.{Text}
 use Rattle.mr_model.specs.Writes.{is_server}
-use Rattle.mr_model.specs.Refusals.{OutOfMemory, Store}
-use Rattle.mr_model.specs.Replica.{opening}
+use Rattle.mr_model.specs.Refusals.{Refusal, OutOfMemory, Store}
+use Rattle.mr_model.specs.Replica.{Replica, IsReplica, opening}
 use Rattle.mr_model.specs.Exchange.{batch_text}
 use Rattle.mr_model.specs.Replies.{Reply, BatchIs, Refused}
-use Rattle.mr_model.specs.Step.{Command, Receive, BatchFor, IsOfMachine}
+use Rattle.mr_model.specs.Step.{Command, Receive, BatchFor, IsStep, IsOfMachine}
 use Rattle.mr_model.specs.Serving.{TakesStep, Reaches}
 use Rattle.mr_model.specs.Tables.{Tables, Stands}
 use Rattle.mr_model.specs.World.{World, empty_world, Add, Do, Deliver, StepReply, Added, Made, Said, batch_numbered}
 use Rattle.mr_model.specs.Honest.{IsHonest}
-use Rattle.mr_offices.specs.Offices.{Act, Within, Give, IsOfficeStep, IsOfficeRun}
+use Rattle.mr_offices.specs.Offices.{Act, Within, Give, act_after, IsOfficeStep, IsOfficeRun}
 use Rattle.mr_offices.specs.OfficeLaws.{KeepsHistory, KeepsPlaces}
 use Rattle.mr_offices.specs.Standing.{Sight, LeavesAlone, Office, Offices, StandFor}
 
@@ -57,24 +57,32 @@ texts_after texts c reply = texts
 
 -- ---- calls
 
--- One command was done over a database that was open, as the contracts of keepers tell: it took its step, or the machine failed. With 24 or 25 the
--- tables are as they were if the database is still open, and a crash leaves them so, or as the command makes them.
+-- every replica refuses the command so, and stays as it is
+abbrev pub IsRefusedAnywhere : Command → Reply → Type 0
+IsRefusedAnywhere c reply = (e : Refusal) × (reply ≡ Refused e) × ((a : Replica) → IsReplica a → IsStep a c reply a)
+
+-- One command was done over a database, as the contracts of keepers tell. It took its step, or the machine failed; one that a failure has shut, maybe
+-- long before, gave a refusal that every replica gives (24, 25, or of the command's words). With 24 or 25 the tables are as they were if the database is
+-- still open. A crash leaves no more than before, or what the command makes of an open one.
 pub record IsCalled {K : Type 0} (sight : Sight K) (old new : K) (c : Command) (reply : Reply) : Type 0 where
-  pub opened : sight.is_open old
-  pub lasts : IsOfMachine reply ⊎ sight.is_open new
+  pub opens : sight.is_open new → sight.is_open old
+  pub answered : sight.is_open old ⊎ IsRefusedAnywhere c reply
+  pub lasts : sight.is_open old → IsOfMachine reply ⊎ sight.is_open new
   pub step : sight.is_open new → TakesStep (sight.tables old) c reply (sight.tables new)
   pub refused : sight.is_open new → IsOfMachine reply → sight.tables new ≡ sight.tables old
   pub settled : sight.is_open new → LeavesAlone (sight.may_leave old) (sight.tables old) → LeavesAlone (sight.may_leave new) (sight.tables new)
-  pub crash : (t : Tables) → sight.may_leave new t → sight.may_leave old t ⊎ Reaches (sight.tables old) c t
+  pub crash : (t : Tables) → sight.may_leave new t → sight.may_leave old t ⊎ (sight.is_open old × Reaches (sight.tables old) c t)
 
--- none behind a reply; behind 24 and 25 the command
-abbrev pub pending_after : Command → Reply → Option Command
-pending_after c (Refused OutOfMemory) = Some c
-pending_after c (Refused Store) = Some c
-pending_after c reply = None
+-- Behind 24 and 25 the command too is in doubt. Another refusal leaves what was in doubt, since a shut database refuses words. An answer comes of an
+-- open one: nothing is in doubt behind it.
+abbrev pub pending_after : List Command → Command → Reply → List Command
+pending_after pending c (Refused OutOfMemory) = pending ++ c ∷ []
+pending_after pending c (Refused Store) = pending ++ c ∷ []
+pending_after pending c (Refused e) = pending
+pending_after pending c reply = []
 
 abbrev pub office_after : {K : Type 0} → Office K → K → Command → Reply → Office K
-office_after o new c reply = record o { keeper = new; pending = pending_after c reply }
+office_after o new c reply = record o { keeper = new; pending = pending_after o.pending c reply }
 
 abbrev pub offices_after : {K : Type 0} → Offices K → ℕ → Office K → K → Command → Reply → Offices K
 offices_after v place o new c reply = record { offices = slice_set v.offices place (office_after o new c reply); texts = texts_after v.texts c reply }
@@ -85,8 +93,26 @@ pub record IsReopened {K : Type 0} (sight : Sight K) (old new : K) : Type 0 wher
   pub found : sight.may_leave old (sight.tables new)
   pub settled : LeavesAlone (sight.may_leave new) (sight.tables new)
 
+-- what is received by commands in doubt is a prefix of a batch each
+abbrev pub AreAsked : List Text → List Command → Type 0
+AreAsked texts [] = Unit {0}
+AreAsked texts (c ∷ cs) = IsAsked texts c × AreAsked texts cs
+
+-- the acts that they are, in the order in which they were asked; nothing is heard of any
+abbrev pub acts_of : (texts : List Text) → ℕ → (pending : List Command) → AreAsked texts pending → List Act
+acts_of texts server [] from = []
+acts_of texts server (c ∷ cs) from = act_of texts server c from.0 ∷ acts_of texts server cs from.1
+
+abbrev pub unheard : List Command → List (Option StepReply)
+unheard pending = map (λ c. None) pending
+
+-- the world as it was, or as one of these acts leaves it
+abbrev pub IsAfterOneOrNone : World → List Act → World → Type 0
+IsAfterOneOrNone old [] new = new ≡ old
+IsAfterOneOrNone old (act ∷ acts) new = (new ≡ (act_after old act).world) ⊎ IsAfterOneOrNone old acts new
+
 abbrev pub reopened_at : {K : Type 0} → Offices K → ℕ → Office K → K → Offices K
-reopened_at v place o new = record v { offices = slice_set v.offices place (record o { keeper = new; pending = None }) }
+reopened_at v place o new = record v { offices = slice_set v.offices place (record o { keeper = new; pending = [] }) }
 
 -- the server of the first office, or this one if there is none
 abbrev pub first_server : {K : Type 0} → List (Office K) → ℕ → ℕ
@@ -102,7 +128,7 @@ pub record IsFounded {K : Type 0} (sight : Sight K) (v : Offices K) (server : �
   pub settled : LeavesAlone (sight.may_leave new) (sight.tables new)
 
 abbrev pub founded : {K : Type 0} → Offices K → ℕ → K → Offices K
-founded v server new = record v { offices = v.offices ++ record { server = server; keeper = new; pending = None } ∷ [] }
+founded v server new = record v { offices = v.offices ++ record { server = server; keeper = new; pending = [] } ∷ [] }
 
 -- ---- laws of one happening
 
@@ -112,18 +138,14 @@ CallsAreActs {K} sight =
     → IsHonest w → StandFor sight v w → slice_get v.offices place ≡ Some o → (from : IsAsked v.texts c) → IsCalled sight o.keeper new c reply
     → (end : World) × IsOfficeStep w (act_of v.texts o.server c from) (Some (reply_heard v.texts c reply)) end × StandFor sight (offices_after v place o new c reply) end
 
--- behind a failure the command turns out to be done when the database is opened again, or not
+-- When the database is opened again, each command in doubt turns out to be done or not: one of them at most is done. If none is in doubt, nothing
+-- is lost.
 abbrev pub ReopeningsAreActs : {K : Type 0} → Sight K → Type 0
 ReopeningsAreActs {K} sight =
-    (v : Offices K) (w : World) (place : ℕ) (o : Office K) (new : K) (c : Command)
-    → IsHonest w → StandFor sight v w → slice_get v.offices place ≡ Some o → o.pending ≡ Some c → (from : IsAsked v.texts c) → IsReopened sight o.keeper new
-    → (end : World) × IsOfficeStep w (act_of v.texts o.server c from) None end × StandFor sight (reopened_at v place o new) end
-
--- behind a reply nothing is lost
-abbrev pub RestartsAreNoActs : {K : Type 0} → Sight K → Type 0
-RestartsAreNoActs {K} sight =
     (v : Offices K) (w : World) (place : ℕ) (o : Office K) (new : K)
-    → IsHonest w → StandFor sight v w → slice_get v.offices place ≡ Some o → o.pending ≡ None → IsReopened sight o.keeper new → StandFor sight (reopened_at v place o new) w
+    → IsHonest w → StandFor sight v w → slice_get v.offices place ≡ Some o → (from : AreAsked v.texts o.pending) → IsReopened sight o.keeper new
+    → (end : World) × IsOfficeRun w (acts_of v.texts o.server o.pending from) (unheard o.pending) end
+    × IsAfterOneOrNone w (acts_of v.texts o.server o.pending from) end × StandFor sight (reopened_at v place o new) end
 
 abbrev pub FoundingsAreActs : {K : Type 0} → Sight K → Type 0
 FoundingsAreActs {K} sight =
@@ -141,13 +163,10 @@ pub data AreHappenings {K : Type 0} (sight : Sight K) : Offices K → List Act �
       → slice_get v.offices place ≡ Some o → (from : IsAsked v.texts c) → IsCalled sight o.keeper new c reply
       → AreHappenings sight (offices_after v place o new c reply) acts heard end
       → AreHappenings sight v (act_of v.texts o.server c from ∷ acts) (Some (reply_heard v.texts c reply) ∷ heard) end
-  restarted : {v end : Offices K} {acts : List Act} {heard : List (Option StepReply)} (place : ℕ) (o : Office K) (new : K)
-      → slice_get v.offices place ≡ Some o → o.pending ≡ None → IsReopened sight o.keeper new
-      → AreHappenings sight (reopened_at v place o new) acts heard end → AreHappenings sight v acts heard end
-  recovered : {v end : Offices K} {acts : List Act} {heard : List (Option StepReply)} (place : ℕ) (o : Office K) (new : K) (c : Command)
-      → slice_get v.offices place ≡ Some o → o.pending ≡ Some c → (from : IsAsked v.texts c) → IsReopened sight o.keeper new
+  reopened : {v end : Offices K} {acts : List Act} {heard : List (Option StepReply)} (place : ℕ) (o : Office K) (new : K)
+      → slice_get v.offices place ≡ Some o → (from : AreAsked v.texts o.pending) → IsReopened sight o.keeper new
       → AreHappenings sight (reopened_at v place o new) acts heard end
-      → AreHappenings sight v (act_of v.texts o.server c from ∷ acts) (None ∷ heard) end
+      → AreHappenings sight v (acts_of v.texts o.server o.pending from ++ acts) (unheard o.pending ++ heard) end
   new_office : {v end : Offices K} {acts : List Act} {heard : List (Option StepReply)} (server : ℕ) (new : K)
       → IsFounded sight v server new → AreHappenings sight (founded v server new) acts heard end
       → AreHappenings sight v (Within (Add server) ∷ acts) (Some Added ∷ heard) end

@@ -21,7 +21,7 @@ use Rattle.mr_service.specs.Served.{IsServed}
 use Rattle.mr_service.specs.Asked.{reply_of, reply_in}
 use Rattle.mr_service.specs.Turns.{Does, Answers, Refuses, TurnsBy, Tells, IsPartFrom, IsLoaded, IsMadeFor}
 use Rattle.mr_service.specs.declared.replies.Reply as code
-use Rattle.mr_service.proofs.KeeperReads.{stays, read_then, answered_by, refused_by}
+use Rattle.mr_service.proofs.KeeperReads.{anywhere_failed, stays, read_then, answered_by, refused_by}
 use Rattle.mr_service.proofs.DeskSteps.{of_fault, fault_counts, fault_rise, fault_step}
 use Rattle.mr_replica.proofs.RefusedSteps.{refused_leaves}
 
@@ -139,9 +139,13 @@ abbrev pub Atomic : {K X : Type 0} → Ghosts K → K → K → ChangeView → R
 Atomic k old new change result = IsAtomic k.tables k.failures k.is_clean k.is_open k.may_leave k.never_fails change old new result
 
 -- what a crash may leave where a change is being made
-left_of : {K : Type 0} (k : Ghosts K) (old : K) (c : Command) (t u : Tables) → Reaches (k.tables old) c u → k.may_leave old t ⊎ (t ≡ u) → k.may_leave old t ⊎ Reaches (k.tables old) c t
+left_of : {K : Type 0} (k : Ghosts K) (old : K) (c : Command) (t u : Tables) → Reaches (k.tables old) c u → k.may_leave old t ⊎ (k.is_open old × (t ≡ u)) → k.may_leave old t ⊎ Reaches (k.tables old) c t
 left_of k old c t u reaches (inl before) = inl before
-left_of k old c t u reaches (inr after) = inr (subst (λ v. Reaches (k.tables old) c v) (sym after) reaches)
+left_of k old c t u reaches (inr (o, after)) = inr (subst (λ v. Reaches (k.tables old) c v) (sym after) reaches)
+
+was_open : {K : Type 0} (k : Ghosts K) (old : K) (t u : Tables) → k.may_leave old t ⊎ (k.is_open old × (t ≡ u)) → k.may_leave old t ⊎ k.is_open old
+was_open k old t u (inl before) = inl before
+was_open k old t u (inr (o, after)) = inr o
 
 -- a change that is made serves each command whose step is told
 pub applied : {K X : Type 0} (k : Ghosts K) (old new : K) (x : X) (c : Command) (reply : Reply) (change : ChangeView)
@@ -159,8 +163,10 @@ applied k old new x c reply change steps reaches accepted atomic =
       rise = inl atomic.counts;
       sure = λ s u o a h. atomic.counts;
       lasts = λ u o. inr (atomic.lasts u o);
+      answered = λ u. inl (atomic.answered u);
       settled = atomic.settled;
-      crash = λ u o t left. left_of k old c t (changed change (k.tables old)) (reaches (atomic.clean u) o) (atomic.crash u o t left);
+      crash = λ u o t left. left_of k old c t (changed change (k.tables old)) (reaches (atomic.clean u) o) (atomic.crash u t left);
+      shut = λ u t left. was_open k old t (changed change (k.tables old)) (atomic.crash u t left);
     }
 
 -- a change that fails serves any of them too, by the refusal that tells of the failure
@@ -177,8 +183,10 @@ apply_failed k old new c change e r is reaches atomic =
       rise = fault_rise e r (k.failures old) (k.failures old) (k.failures new) is refl atomic.counts;
       sure = λ s u o. atomic.sure s;
       lasts = λ u o. inl (of_fault e r is);
+      answered = λ u. inr (anywhere_failed c r (of_fault e r is));
       settled = atomic.settled;
-      crash = λ u o t left. left_of k old c t (changed change (k.tables old)) (reaches (atomic.clean u) o) (atomic.crash u o t left);
+      crash = λ u o t left. left_of k old c t (changed change (k.tables old)) (reaches (atomic.clean u) o) (atomic.crash u t left);
+      shut = λ u t left. was_open k old t (changed change (k.tables old)) (atomic.crash u t left);
     }
 
 -- ---- commands over a keeper
@@ -186,7 +194,7 @@ apply_failed k old new c change e r is reaches atomic =
 -- a part that couldn't be loaded: every command is refused so
 pub not_loaded : {K : Type 0} (k : Ghosts K) (old new : K) (s : Scope) (e : Refusal) (c : Command) → IsLoaded k old new s (Err e) → IsServed k old new c (Refused (refusal_of e))
 not_loaded k old new s e c loaded =
-    refused_by k old new e c loaded.read (λ u o a h. (a, inr (loaded.failed, refl), subst (λ t. Stands t a) (sym (loaded.read.same u o)) h))
+    refused_by k old new e c loaded.read (λ u. inr (anywhere_failed c e loaded.failed)) (λ u o a h. (a, inr (loaded.failed, refl), subst (λ t. Stands t a) (sym (loaded.read.same u o)) h))
 
 -- a part that was loaded is still that of the tables
 pub from_loaded : {K : Type 0} (k : Ghosts K) (old new : K) (s : Scope) (part : PartView) → IsLoaded k old new s (Ok part) → k.is_clean new → k.is_open new → IsPartFrom (k.tables new) s part
@@ -201,11 +209,11 @@ told_by k old new s part (Ok reply) c f loaded does told =
 told_by k old new s part (Err e) c f loaded does told =
     answered_by k old new part c (Refused (refusal_of e)) loaded.read (λ u o. refuses_step c f s part e (k.tables old) (k.tables new) does (loaded.fits u (loaded.read.opens u o)) told (loaded.read.same u o)) (not_store e told.never_store)
 
--- a call of the part that is refused serves each command whose refusal it is
+-- a call of the part of an open keeper that is refused serves each command whose refusal it is
 pub refused_call : {K : Type 0} (k : Ghosts K) (at : K) (s : Scope) (part : PartView) (e : Refusal) (c : Command) (f : Replica → After)
-    → Does c f → (k.is_clean at → k.is_open at → IsPartFrom (k.tables at) s part) → Refuses s f part e → IsServed k at at c (Refused (refusal_of e))
-refused_call k at s part e c f does from told =
-    stays k at c e (λ u o. refuses_step c f s part e (k.tables at) (k.tables at) does (from u o) told refl) (not_store e told.never_store)
+    → Does c f → (k.is_clean at → k.is_open at) → (k.is_clean at → k.is_open at → IsPartFrom (k.tables at) s part) → Refuses s f part e → IsServed k at at c (Refused (refusal_of e))
+refused_call k at s part e c f does is_open from told =
+    stays k at c e (λ u. inl (is_open u)) (λ u o. refuses_step c f s part e (k.tables at) (k.tables at) does (from u o) told refl) (not_store e told.never_store)
 
 -- a change that a call of the part told serves each command that the call answers, where it is made
 pub change_made : {K X : Type 0} (k : Ghosts K) (old new : K) (x : X) (s : Scope) (part : PartView) (reply : Reply) (change : ChangeView) (c : Command) (f : Replica → After)
@@ -226,4 +234,4 @@ change_failed k old new s part reply change e r c f is does from made atomic =
 pub made_by : {K : Type 0} (k : Ghosts K) (first middle last : K) (s : Scope) (part : PartView) (answer : Result (code.Reply × ChangeView) Refusal) (reply : Reply) (c : Command) (f : Replica → After)
     → IsLoaded k first middle s (Ok part) → IsMadeFor k middle last answer reply → Does c f → TurnsBy s f part answer → IsServed k first last c reply
 made_by k first middle last s part answer reply c f loaded made does turned =
-    read_then k first middle last part c reply loaded.read (made c f s part does (λ u o. from_loaded k first middle s part loaded u o) turned)
+    read_then k first middle last part c reply loaded.read (made c f s part does (λ u. loaded.read.lasts u (loaded.read.answered u)) (λ u o. from_loaded k first middle s part loaded u o) turned)

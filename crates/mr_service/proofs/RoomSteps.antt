@@ -12,7 +12,7 @@ use Rattle.mr_model.specs.Refusals as model
 use Rattle.mr_model.specs.Replica.{Replica, IsReplica, knows_room, clock_of, count_of}
 use Rattle.mr_model.specs.Replies.{CalendarPart, Full, Committed, Reply, Calendar, Sheet, OutcomeIs, Errors, Refused}
 use Rattle.mr_model.specs.View.{View, view_of, whole_list, calendar_list, entries, entries_of_day, logging_of, find_request, outcome_reply, told_of, Question, AskSheet, AskCalendar, AskOutcome, AskErrors, unless, answer}
-use Rattle.mr_model.specs.Step.{After, Ask, Cancel, IsOfMachine, no_memory, refuse, step_unless, after_write, cancel, cancel_write, knows_booking}
+use Rattle.mr_model.specs.Step.{After, Ask, Cancel, Command, IsOfMachine, no_memory, refuse, step_unless, after_write, cancel, cancel_write, knows_booking}
 use Rattle.mr_model.specs.Serving.{TakesStep}
 use Rattle.mr_model.specs.Tables.{BookingRow, ErrorRow, CancelledRow, CancelRow, PlaceRow, Tables, Stands, tables_of}
 use Rattle.mr_model.specs.Tables as rows
@@ -31,7 +31,9 @@ use Rattle.mr_service.specs.Asked.{log_line_seen, outcome_seen}
 use Rattle.mr_service.specs.declared.replies.LogLine as replies
 use Rattle.mr_service.specs.declared.replies.Outcome.{Outcome}
 use Rattle.mr_service.specs.Questions.{room_fault, FindsRoom, ShowsCalendar, ShowsLines, TellsOutcomeOf, committed_rows, row_of_cancel, lines_of, line_key, log_key_cmp}
+use Rattle.mr_service.specs.Served.{IsRefusedAnywhere}
 pub use Rattle.mr_service.proofs.DeskSteps.{of_fault, fault_step}
+use Rattle.mr_service.proofs.KeeperReads.{anywhere}
 use Rattle.mr_service.proofs.RoomRows.{calendar_rows, committed_calendar_rows, sheet_rows}
 use Rattle.mr_service.proofs.RoomLog.{log_rows, place_found, cancel_found, no_place_told}
 
@@ -91,6 +93,12 @@ refused : (t u : Tables) (room : Text) (q : Question) (told : View → Reply) (e
 refused t u room q told e asks same (inl own) =
     λ a h. (a, inl (ap (λ r. record { reply = r; replica = a }) (sym (answer_at t a room q told (Some (refusal_of e)) asks own h.are))), subst (λ x. Stands x a) (sym same) h)
 refused t u room q told e asks same (inr machine) = λ a h. (a, inr (machine, refl), subst (λ x. Stands x a) (sym same) h)
+
+-- A name that is refused whatever rooms are known: every replica refuses the command so. Or the keeper was asked for its rooms, and was open.
+pub refused_anywhere : {Open : Type 0} (c : Command) (room : Text) (e : Refusal) → ((t : Tables) → FindsRoom t.room room (Err e) → TakesStep t c (Refused (refusal_of e)) t)
+    → Open ⊎ ((rooms : List Text) → FindsRoom rooms room (Err e)) → Open ⊎ IsRefusedAnywhere c (Refused (refusal_of e))
+refused_anywhere c room e steps (inl was_open) = inl was_open
+refused_anywhere c room e steps (inr all) = inr (anywhere c e (λ t. steps t (all t.room)))
 
 -- ---- words
 

@@ -57,9 +57,10 @@ pub record IsLoaded {K : Type 0} (keeper : Ghosts K) (old new : K) (scope : Scop
   pub within : IfOk result (λ part. IsWithin part.summary)
   pub failed : IfErr result (λ e. IsOfMachine (Refused (refusal_of e)))
 
--- What the call of a part answered was made in the tables that the part is from: every command that does what the call turns was served.
+-- What the call of a part answered was made in the tables that the part is from, over an open keeper: every command that does what the call turns was
+-- served.
 abbrev pub IsMadeFor : {K : Type 0} → Ghosts K → K → K → Result (code.Reply × ChangeView) Refusal → Reply → Type 0
 IsMadeFor keeper old new answer reply =
     (command : Command) (f : Replica → After) (scope : Scope) (part : PartView) → Does command f
-    → (keeper.is_clean old → keeper.is_open old → IsPartFrom (keeper.tables old) scope part)
+    → (keeper.is_clean old → keeper.is_open old) → (keeper.is_clean old → keeper.is_open old → IsPartFrom (keeper.tables old) scope part)
     → TurnsBy scope f part answer → IsServed keeper old new command reply

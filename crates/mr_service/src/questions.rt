@@ -1,8 +1,9 @@
 //! Questions about a room, answered from the rows that the keeper picks.
 
-ghost use Rattle.std.specs.Prelude.{◌≡◌, map, IfOk, IfErr};
+ghost use Rattle.std.specs.Prelude.{◌≡◌, ◌⊎◌, List, map, Err, IfOk, IfErr};
 ghost use Rattle.std.specs.List.{list_any};
 ghost use Rattle.std.specs.Str.{bytes_eq};
+ghost use Rattle.mr_model.specs.Texts.{Text};
 ghost use Rattle.mr_model.specs.Replies as replies;
 ghost use Rattle.mr_model.specs.Step as model;
 ghost use Rattle.mr_model.specs.Step.{IsOfMachine};
@@ -90,6 +91,7 @@ pub(crate) fn known_room<K: Keeper>(
 ) -> Result<RoomName, Refusal>
     ensures read { IsRead K.Keeper keeper.old keeper.new result }
     ensures finds { K.is_clean keeper.new → K.is_open keeper.old → FindsRoom (K.tables keeper.old).room room.now result }
+    ensures refuses { IfErr result (λ e. K.is_clean keeper.new → K.is_open keeper.old ⊎ ((rooms : List Text) → FindsRoom rooms room.now (Err e))) }
 {
     let room = RoomName::new(alloc, room)?;
     let rooms = keeper.rooms()?;
@@ -160,7 +162,7 @@ fn outcome_at<K: Keeper>(
     room: &RoomName,
     place: &PlaceRow,
 ) -> Result<Outcome, Refusal>
-    ensures read { IsRead K.Keeper keeper.old keeper.new result }
+    ensures read { (K.is_clean keeper.old → K.is_open keeper.old) → IsRead K.Keeper keeper.old keeper.new result }
     ensures tells { K.is_clean keeper.new → K.is_open keeper.old → TellsOutcomeOf room.now (K.tables keeper.old) (place_row_of place.now) result }
 {
     match place {

@@ -7,7 +7,7 @@ ghost use Rattle.mr_service.specs.Asked.{command_seen, local_of, reply_of, reply
 ghost use Rattle.mr_service.specs.Asking.{Counts, LeavesOnRefusal, NoneFails, TellsRise, TellsWordFaults};
 ghost use Rattle.mr_service.specs.Headline.{AnswersQuestion};
 ghost use Rattle.mr_service.specs.Replied.{RepliesTo};
-ghost use Rattle.mr_service.specs.Served.{IsServed};
+ghost use Rattle.mr_service.specs.Served.{IsRefusedAnywhere, IsServed};
 
 use crate::changing::{add_room, batch_for, cancel, commit, position, receive, submit, truncate};
 use crate::commands::{Command, Local};
@@ -64,6 +64,8 @@ impl<K: Keeper> Service<K> {
             → IsSettled (K.may_leave self.new) (K.tables self.new) }
         ensures crash { K.is_clean self.new → K.is_open self.old → (t : Tables) → K.may_leave self.new t → K.may_leave self.old t
             ⊎ Reaches (K.tables self.old) (command_seen command.now) t }
+        ensures answered { K.is_clean self.new → K.is_open self.old ⊎ IsRefusedAnywhere (command_seen command.now) (reply_of result) }
+        ensures shut { K.is_clean self.new → (t : Tables) → K.may_leave self.new t → K.may_leave self.old t ⊎ K.is_open self.old }
         ensures replied { K.is_clean self.new → K.is_open self.old → RepliesTo (K.tables self.old) (command_seen command.now) (reply_of result) }
         ensures headline { K.is_clean self.new → K.is_open self.old → AnswersQuestion (K.tables self.old) (command_seen command.now) (reply_of result) }
         ensures due { TellsWordFaults (command_seen command.now) (reply_of result) }

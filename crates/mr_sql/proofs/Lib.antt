@@ -13,3 +13,5 @@ pub mod FirstTaken
 pub mod FileLemmas
 pub mod CopyLemmas
 pub mod ColumnLemmas
+pub mod CallLemmas
+pub mod ShutLemmas

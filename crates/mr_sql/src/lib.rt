@@ -18,6 +18,7 @@ mod our_tables;
 mod questions;
 mod schema_number;
 mod schemas;
+mod shut;
 mod sql_keeper;
 
 pub use files::{CopyKeeper, FileKeeper, NotCopied};

@@ -1,12 +1,20 @@
-ghost use Rattle.std.specs.Prelude.{◌≡◌, ◌≢◌, ◌<◌, ◌⊎◌, true, IfOk, IfErr, IsTrue};
+ghost use Rattle.std.specs.Prelude.{◌≡◌, ◌≢◌, ◌<◌, ◌⊎◌, true, false, IfOk, IfErr, IsTrue};
 ghost use Rattle.sqlite.specs.Steps.{over_memory, IsEmpty};
 ghost use Rattle.sqlite.specs.State.{HasCleanDisk};
 ghost use Rattle.sqlite.specs.Held.{state};
 ghost use Rattle.mr_agree.specs.Agreeing.{agree};
-ghost use Rattle.mr_model.specs.Replica.{opening};
+ghost use Rattle.mr_model.specs.Replica.{Replica, opening};
 ghost use Rattle.mr_model.specs.Tables.{Stands};
+ghost use Rattle.mr_replica.specs.Desk.{StandsFor, IsWithinLimits};
+ghost use Rattle.mr_part.specs.NextId.{id_given};
+ghost use Rattle.mr_part.specs.Parts.{IsPartOf};
+ghost use Rattle.mr_part.specs.ScopeOf.{scope_of};
+ghost use Rattle.mr_tables.specs.Summary.{IsWithin};
+ghost use Rattle.mr_store.specs.Answers.{IsAnswerTo, IsNamedAs};
 ghost use Rattle.mr_store.specs.KeeperCalls.{failures_for};
+ghost use Rattle.mr_store.specs.Taken.{is_taken};
 ghost use Rattle.mr_rows.specs.Database.{IsKept, tables_in};
+ghost use Rattle.mr_sql.specs.Calls.{IsAtomicCall, IsQuietCall};
 ghost use Rattle.mr_sql.specs.Found.{AreFresh, IsAdopted, IsResumed, IsTaken, LeavesTables};
 ghost use Rattle.mr_sql.specs.Opened.{ComesBack, IsNewKeeper, IsOfOpening, RefusesToAdopt, RefusesToResume};
 ghost use Rattle.mr_sql.specs.Opening.{AreTakenAs, IsLeftOpen, RefusesFor};
@@ -14,6 +22,7 @@ ghost use Rattle.mr_sql.specs.Opening.{AreTakenAs, IsLeftOpen, RefusesFor};
 use crate::adopt::{Whose, open_tables, retaken};
 use crate::create::create;
 use crate::faults::refusal_of;
+use crate::shut::check_open;
 use crate::{load, questions};
 use mr_base::{Refusal, ServerId};
 use mr_part::{Part, Scope};
@@ -67,6 +76,86 @@ fn fault_of(failures: &mut u64, error: Error) -> Fault
     Fault::counted(failures)
 }
 
+// The keeper is asked whether its connection is open before anything else: of a shut one no rows are answered, not even those that its open read.
+// So each call has a part that is made of an open keeper.
+impl<S: Alter> SqlKeeper<S> {
+    /// Refuses if a failure of the store has shut the connection.
+    fn confirm(&mut self) -> Result<(), Fault>
+        ensures quiet { IsQuietCall S.Store self.old self.new result }
+    {
+        match check_open(&mut self.conn) {
+            Ok(()) => Ok(()),
+            Err(error) => Err(fault_of(&mut self.failures, error)),
+        }
+    }
+
+    fn load_open(&mut self) -> Result<Desk, Fault>
+        requires open { HasCleanDisk (state S.Store self.old.0) → IsTrue (state S.Store self.old.0).is_open }
+        ensures quiet { IsQuietCall S.Store self.old self.new result }
+        ensures loaded { HasCleanDisk (state S.Store self.new.0) → IsTrue (state S.Store self.old.0).is_open
+            → (a : Replica) → Stands (tables_in (state S.Store self.old.0).now.trees) a → IfOk result (λ desk. StandsFor desk a) }
+        ensures within { IfOk result IsWithinLimits }
+    {
+        match load::load_desk(&mut self.conn, self.alloc) {
+            Ok(value) => Ok(value),
+            Err(error) => Err(fault_of(&mut self.failures, error)),
+        }
+    }
+
+    fn load_part_open(&mut self, scope: &Scope<'_>) -> Result<Part, Fault>
+        requires open { HasCleanDisk (state S.Store self.old.0) → IsTrue (state S.Store self.old.0).is_open }
+        ensures quiet { IsQuietCall S.Store self.old self.new result }
+        ensures loaded { HasCleanDisk (state S.Store self.new.0) → IsTrue (state S.Store self.old.0).is_open
+            → (a : Replica) → Stands (tables_in (state S.Store self.old.0).now.trees) a → IfOk result (λ part. IsPartOf part (scope_of scope.now) a) }
+        ensures free { HasCleanDisk (state S.Store self.new.0) → IsTrue (state S.Store self.old.0).is_open
+            → IfOk result (λ part. is_taken (id_given (scope_of scope.now) part.summary) (tables_in (state S.Store self.old.0).now.trees) ≡ false) }
+        ensures within { IfOk result (λ part. IsWithin part.summary) }
+    {
+        let fresh = self.fresh.take();
+        match load::load_part(&mut self.conn, self.alloc, scope, fresh) {
+            Ok(value) => Ok(value),
+            Err(error) => Err(fault_of(&mut self.failures, error)),
+        }
+    }
+
+    fn query_open(&mut self, question: &Question<'_>) -> Result<Answer, Fault>
+        requires open { HasCleanDisk (state S.Store self.old.0) → IsTrue (state S.Store self.old.0).is_open }
+        ensures quiet { IsQuietCall S.Store self.old self.new result }
+        ensures named { IfOk result (IsNamedAs question.now) }
+        ensures answers { HasCleanDisk (state S.Store self.new.0) → IsTrue (state S.Store self.old.0).is_open
+            → IfOk result (IsAnswerTo question.now (tables_in (state S.Store self.old.0).now.trees)) }
+    {
+        match questions::query(&mut self.conn, self.alloc, question) {
+            Ok(value) => Ok(value),
+            Err(error) => Err(fault_of(&mut self.failures, error)),
+        }
+    }
+
+    fn read_open(&mut self) -> Result<Tables, Fault>
+        requires open { HasCleanDisk (state S.Store self.old.0) → IsTrue (state S.Store self.old.0).is_open }
+        ensures quiet { IsQuietCall S.Store self.old self.new result }
+        ensures rows { HasCleanDisk (state S.Store self.new.0) → IsTrue (state S.Store self.old.0).is_open
+            → IfOk result (λ rows. rows ≡ tables_in (state S.Store self.old.0).now.trees) }
+    {
+        let fresh = self.fresh.take();
+        match load::read_agreeing(&mut self.conn, self.alloc, fresh) {
+            Ok(value) => Ok(value),
+            Err(error) => Err(fault_of(&mut self.failures, error)),
+        }
+    }
+
+    fn apply_open(&mut self, change: &Change) -> Result<(), Fault>
+        requires open { HasCleanDisk (state S.Store self.old.0) → IsTrue (state S.Store self.old.0).is_open }
+        ensures atomic { IsAtomicCall S.Store change.now self.old self.new result }
+    {
+        self.fresh = None;
+        match changes::apply(&mut self.conn, self.alloc, change) {
+            Ok(value) => Ok(value),
+            Err(error) => Err(fault_of(&mut self.failures, error)),
+        }
+    }
+}
+
 impl<S: Alter> Keeper for SqlKeeper<S> {
     ghost use Rattle.std.specs.Prelude.{◌≡◌, IsTrue};
     ghost use Rattle.sqlite_trees.specs.Tree.{Trees};
@@ -87,40 +176,37 @@ impl<S: Alter> Keeper for SqlKeeper<S> {
     ghost never_fails = { ⊥ };
 
     fn load(&mut self) -> Result<Desk, Fault> {
-        match load::load_desk(&mut self.conn, self.alloc) {
-            Ok(value) => Ok(value),
-            Err(error) => Err(fault_of(&mut self.failures, error)),
+        match self.confirm() {
+            Ok(()) => self.load_open(),
+            Err(fault) => Err(fault),
         }
     }
 
     fn load_part(&mut self, scope: &Scope<'_>) -> Result<Part, Fault> {
-        let fresh = self.fresh.take();
-        match load::load_part(&mut self.conn, self.alloc, scope, fresh) {
-            Ok(value) => Ok(value),
-            Err(error) => Err(fault_of(&mut self.failures, error)),
+        match self.confirm() {
+            Ok(()) => self.load_part_open(scope),
+            Err(fault) => Err(fault),
         }
     }
 
     fn query(&mut self, question: &Question<'_>) -> Result<Answer, Fault> {
-        match questions::query(&mut self.conn, self.alloc, question) {
-            Ok(value) => Ok(value),
-            Err(error) => Err(fault_of(&mut self.failures, error)),
+        match self.confirm() {
+            Ok(()) => self.query_open(question),
+            Err(fault) => Err(fault),
         }
     }
 
     fn read(&mut self) -> Result<Tables, Fault> {
-        let fresh = self.fresh.take();
-        match load::read_agreeing(&mut self.conn, self.alloc, fresh) {
-            Ok(value) => Ok(value),
-            Err(error) => Err(fault_of(&mut self.failures, error)),
+        match self.confirm() {
+            Ok(()) => self.read_open(),
+            Err(fault) => Err(fault),
         }
     }
 
     fn apply(&mut self, change: &Change) -> Result<(), Fault> {
-        self.fresh = None;
-        match changes::apply(&mut self.conn, self.alloc, change) {
-            Ok(value) => Ok(value),
-            Err(error) => Err(fault_of(&mut self.failures, error)),
+        match self.confirm() {
+            Ok(()) => self.apply_open(change),
+            Err(fault) => Err(fault),
         }
     }
 }

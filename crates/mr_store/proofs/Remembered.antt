@@ -1,11 +1,13 @@
 -- How the calls follow on one another of a keeper that has its rows in memory, and what these rows answer.
 use Rattle.std.specs.Prelude.{OnOk, OnErr}
-use Rattle.std.proofs.Common.{◌≡◌, sym, ap, subst, ◌∙◌, Option, Some, None, Result, Ok, Err}
+use Rattle.std.specs.Result.{is_err}
+use Rattle.std.proofs.lemmas.Bool.{true≢false}
+use Rattle.std.proofs.Common.{◌≡◌, ℕ, sym, ap, subst, ◌∙◌, false, Option, Some, None, Result, Ok, Err}
 use Rattle.mr_model.specs.Tables.{Tables, Stands}
 use Rattle.mr_tables.specs.Change.{ChangeView, changed}
 use Rattle.mr_store.specs.declared.keeper.Fault.{Fault}
 use Rattle.mr_store.specs.declared.keeper.Keeper.{Ghosts}
-use Rattle.mr_store.specs.Cached.{IsMemoryAfter, IsMemoryOf, NeverFails}
+use Rattle.mr_store.specs.Cached.{IsMemoryAfter, IsMemoryOf, IsOpenWith, IsRecall, NeverFails}
 use Rattle.mr_store.specs.KeeperCalls.{failures_after, IsAtomic, IsQuiet}
 
 -- a call that leaves the tables, as it is said of the keeper below
@@ -16,9 +18,9 @@ Quiet k old new r = IsQuiet k.tables k.failures k.is_clean k.is_open k.may_leave
 abbrev pub QuietAbove : {K X : Type 0} → Ghosts K → K → K → Result X Fault → Type 0
 QuietAbove k old new r = IsQuiet k.tables k.failures k.is_clean k.is_open k.may_leave (NeverFails k) old new r
 
--- what leaves the tables below leaves them above
-above : {K X : Type 0} (k : Ghosts K) (old new : K) (r : Result X Fault) → Quiet k old new r → QuietAbove k old new r
-above k old new r q = record {
+-- what leaves the tables below is such a call
+below : {K X : Type 0} (k : Ghosts K) (old new : K) (r : Result X Fault) → Quiet k old new r → IsRecall k old new r
+below k old new r q = record {
   clean = q.clean;
   opens = q.opens;
   lasts = q.lasts;
@@ -30,8 +32,8 @@ above k old new r q = record {
 }
 
 -- a call that failed may be part of another, which fails so
-pub refused_above : {K X Y : Type 0} (k : Ghosts K) (old new : K) (e : Fault) → QuietAbove {X = X} k old new (Err e) → QuietAbove {X = Y} k old new (Err e)
-refused_above k old new e q = record {
+pub recall_refused : {K X Y : Type 0} (k : Ghosts K) (old new : K) (e : Fault) → IsRecall {X = X} k old new (Err e) → IsRecall {X = Y} k old new (Err e)
+recall_refused k old new e q = record {
   clean = q.clean;
   opens = q.opens;
   lasts = λ u o. tt;
@@ -42,13 +44,11 @@ refused_above k old new e q = record {
   settled = q.settled;
 }
 
--- the keeper below failed, and so does what is asked above
-pub refused : {K X Y : Type 0} (k : Ghosts K) (old at new : K) (e : Fault) → at ≡ old → Quiet {X = X} k at new (Err e) → QuietAbove {X = Y} k old new (Err e)
-refused {X = X} {Y = Y} k old at new e is q =
-    subst (λ o. QuietAbove {X = Y} k o new (Err e)) is (refused_above {X = X} {Y = Y} k at new e (above {X = X} k at new (Err e) q))
+pub recall_failed : {K X Y : Type 0} (k : Ghosts K) (old new : K) (e : Fault) → Quiet {X = X} k old new (Err e) → IsRecall {X = Y} k old new (Err e)
+recall_failed {X = X} {Y = Y} k old new e q = recall_refused {X = X} {Y = Y} k old new e (below {X = X} k old new (Err e) q)
 
 -- one call follows on another that answered
-pub both : {K X Y : Type 0} (k : Ghosts K) (old mid new : K) (x : X) (r : Result Y Fault) → QuietAbove k old mid (Ok x) → QuietAbove k mid new r → QuietAbove k old new r
+pub both : {K X Y : Type 0} (k : Ghosts K) (old mid new : K) (x : X) (r : Result Y Fault) → IsRecall k old mid (Ok x) → IsRecall k mid new r → IsRecall k old new r
 both k old mid new x r first next =
     record {
       clean = λ u. first.clean (next.clean u);
@@ -57,32 +57,65 @@ both k old mid new x r first next =
       same = λ u o. next.same u o ∙ first.same (next.clean u) (next.opens u o);
       counts = next.counts ∙ ap (failures_after r) first.counts;
       sure = λ never a h. let fine = never.1 mid in next.sure never a (subst (λ t. Stands t a) (sym (first.same fine.0 fine.1)) h) ∙ first.counts;
-      crash = λ u o t left. first.crash (next.clean u) o t (next.crash u (first.lasts (next.clean u) o) t left);
+      crash = λ u t left. first.crash (next.clean u) t (next.crash u t left);
       settled = λ u o before. next.settled u o (first.settled (next.clean u) (next.opens u o) before);
     }
 
+on_ok : {X : Type 0} (r : Result X Fault) {P Q : Type 0} → (P → Q) → OnOk r P → OnOk r Q
+on_ok (Ok x) way p = way p
+on_ok (Err e) way p = tt
+
 -- the rows in memory were asked for, and then the keeper itself is asked
-pub followed : {K X Y : Type 0} (k : Ghosts K) (old mid at new : K) (x : X) (r : Result Y Fault) → QuietAbove k old mid (Ok x) → at ≡ mid → Quiet k at new r → QuietAbove k old new r
-followed k old mid at new x r first is next = both k old mid new x r first (above k mid new r (subst (λ m. Quiet k m new r) is next))
+pub followed : {K X Y : Type 0} (k : Ghosts K) (old mid at new : K) (x : X) (r : Result Y Fault) → IsRecall k old mid (Ok x) → at ≡ mid → Quiet k at new r → QuietAbove k old new r
+followed k old mid at new x r first is next =
+    let last = subst (λ m. Quiet k m new r) is next in
+    let whole = both k old mid new x r first (below k mid new r last) in
+    record {
+      clean = whole.clean;
+      opens = whole.opens;
+      lasts = whole.lasts;
+      answered = λ u. on_ok r (first.opens (last.clean u)) (last.answered u);
+      same = whole.same;
+      counts = whole.counts;
+      sure = whole.sure;
+      crash = whole.crash;
+      settled = whole.settled;
+    }
+
+so : {X : Type 0} (r : Result X Fault) {P : Type 0} → P → OnOk r P
+so (Ok x) p = p
+so (Err e) p = tt
+
+-- the rows in memory were asked for, and they answer: no failure is counted
+pub by_memory : {K Y : Type 0} (k : Ghosts K) (old mid at : K) (memory : Option Tables) (t : Tables) (r : Result Y Fault) → IsRecall k old mid (Ok memory) → at ≡ mid → memory ≡ Some t → IsOpenWith k mid memory
+    → ((n : ℕ) → failures_after r n ≡ n) → QuietAbove k old at r
+by_memory k old mid at memory t r first is some held counted =
+    let opened = subst (λ m. IsOpenWith k mid m) some held in
+    subst (λ m. QuietAbove k old m r) (sym is) (record {
+      clean = first.clean;
+      opens = first.opens;
+      lasts = λ u o. so r (first.lasts u o);
+      answered = λ u. so r (first.opens u (opened u));
+      same = first.same;
+      counts = first.counts ∙ sym (counted (k.failures old));
+      sure = first.sure;
+      crash = first.crash;
+      settled = first.settled;
+    })
 
 -- what the keeper itself answers then holds of its tables before both
-pub of_keeper : {K X Y : Type 0} (k : Ghosts K) (P : Tables → Type 0) (old mid at new : K) (x : X) (r : Result Y Fault) → QuietAbove k old mid (Ok x) → at ≡ mid → Quiet k at new r → (k.is_clean new → k.is_open at → P (k.tables at)) → k.is_clean new → k.is_open old → P (k.tables old)
+pub of_keeper : {K X Y : Type 0} (k : Ghosts K) (P : Tables → Type 0) (old mid at new : K) (x : X) (r : Result Y Fault) → IsRecall k old mid (Ok x) → at ≡ mid → Quiet k at new r → (k.is_clean new → k.is_open at → P (k.tables at)) → k.is_clean new → k.is_open old → P (k.tables old)
 of_keeper k P old mid at new x r first is next told u o =
     let clean = subst (λ m. Quiet k m new r) is next in
     let opened = first.lasts (clean.clean u) o in
     subst P (first.same (clean.clean u) opened) (subst (λ m. k.is_clean new → k.is_open m → P (k.tables m)) is told u opened)
 
 -- what holds of the rows in memory holds of the tables
-pub of_memory : {K : Type 0} (k : Ghosts K) (P : Tables → Type 0) (old mid at : K) (memory : Option Tables) (t : Tables) → QuietAbove k old mid (Ok memory) → at ≡ mid → IsMemoryOf k mid memory → memory ≡ Some t → P t → k.is_clean at → k.is_open old → P (k.tables old)
+pub of_memory : {K : Type 0} (k : Ghosts K) (P : Tables → Type 0) (old mid at : K) (memory : Option Tables) (t : Tables) → IsRecall k old mid (Ok memory) → at ≡ mid → IsMemoryOf k mid memory → memory ≡ Some t → P t → k.is_clean at → k.is_open old → P (k.tables old)
 of_memory k P old mid at memory t first is has some p u o =
     let clean = subst (λ m. k.is_clean m) is u in
     let opened = first.lasts clean o in
     subst P (subst (λ m. IsMemoryOf k mid m) some has clean opened ∙ first.same clean opened) p
-
--- the rows in memory stay while the keeper's do
-pub remembered : {K X : Type 0} (k : Ghosts K) (old new : K) (r : Result X Fault) (memory : Option Tables) → Quiet k old new r → IsMemoryOf k old memory → IsMemoryOf k new memory
-remembered k old new r None q was = tt
-remembered k old new r (Some t) q was = λ u o. was (q.clean u) (q.opens u o) ∙ sym (q.same u o)
 
 -- as it is said of the keeper below, and of the one with its rows in memory
 abbrev pub Atomic : {K X : Type 0} → Ghosts K → ChangeView → K → K → Result X Fault → Type 0
@@ -98,6 +131,7 @@ changed_above k change old at new r is q =
       clean = q.clean;
       opens = q.opens;
       lasts = q.lasts;
+      answered = q.answered;
       applied = q.applied;
       refused = q.refused;
       counts = q.counts;
@@ -119,3 +153,9 @@ kept_rows k change old new e (Some t) q was = λ u o. was (q.clean u) (q.opens u
 pub changed_both : {K X : Type 0} (k : Ghosts K) (change : ChangeView) (old new : K) (r : Result X Fault) (before after : Option Tables) → Atomic k change old new r → IsMemoryOf k old before → OnOk r (IsMemoryAfter change before after) → OnErr r (after ≡ before) → IsMemoryOf k new after
 changed_both k change old new (Ok x) before after q was made kept = changed_rows k change old new x before after q was made
 changed_both k change old new (Err e) before after q was made kept = subst (λ m. IsMemoryOf k new m) (sym kept) (kept_rows k change old new e before q was)
+
+-- and the keeper is open with them, if it has made the change
+pub changed_open : {K X : Type 0} (k : Ghosts K) (change : ChangeView) (old new : K) (r : Result X Fault) (rows : Option Tables) → Atomic k change old new r → is_err r ≡ false → IsOpenWith k new rows
+changed_open k change old new r None q made = tt
+changed_open k change old new (Ok x) (Some t) q made = λ u. q.lasts u (q.answered u)
+changed_open k change old new (Err e) (Some t) q made = absurd (true≢false made)

@@ -25,9 +25,10 @@ quiet_lists old new r same counted sure = record {
   clean = λ u. tt;
   opens = λ u o. tt;
   lasts = λ u o. always r;
+  answered = λ u. always r;
   same = λ u o. same;
   counts = counted;
   sure = λ never. sure;
-  crash = λ u o t left. subst (λ s. t ≡ s) same left;
+  crash = λ u t left. subst (λ s. t ≡ s) same left;
   settled = λ u o before t left. left;
 }

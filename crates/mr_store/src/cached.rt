@@ -1,6 +1,6 @@
-ghost use Rattle.std.specs.Prelude.{◌≡◌, ℕ, false, IfOk, OnOk, OnErr};
-ghost use Rattle.mr_store.specs.KeeperCalls.{failures_after, IsAtomic, IsQuiet};
-ghost use Rattle.mr_store.specs.Cached.{IsMemoryAfter, IsMemoryOf, NeverFails};
+ghost use Rattle.std.specs.Prelude.{◌≡◌, ℕ, true, false, IfOk, OnOk, OnErr};
+ghost use Rattle.mr_store.specs.KeeperCalls.{failures_after, IsAtomic};
+ghost use Rattle.mr_store.specs.Cached.{IsConfirmed, IsMemoryAfter, IsMemoryOf, IsOpenWith, IsRecall, NeverFails};
 
 use crate::keeper::told;
 use crate::{Answer, Fault, Keeper, Question};
@@ -35,7 +35,7 @@ impl<K: Keeper> Model for Cached<K> {
 
     ghost view = { λ c. c.keeper };
 
-    ghost invariant = { λ c. IsMemoryOf K.Keeper c.keeper c.memory };
+    ghost invariant = { λ c. IsMemoryOf K.Keeper c.keeper c.memory × (c.is_doubted ≡ false → IsOpenWith K.Keeper c.keeper c.memory) };
 }
 
 impl<K: Keeper> Cached<K> {
@@ -61,49 +61,57 @@ impl<K: Keeper> Cached<K> {
 
     /// Takes the rows out of memory, or reads them if they aren't there. It is None if the keeper itself is to be asked.
     fn recall(&mut self) -> Result<Option<Memory>, Fault>
-        ensures quiet { IsQuiet K.tables K.failures K.is_clean K.is_open K.may_leave (NeverFails K.Keeper) self.old self.new result }
+        ensures recall { IsRecall K.Keeper self.old self.new result }
         ensures rows { IfOk result (λ memory. IsMemoryOf K.Keeper self.new memory) }
+        ensures open { IfOk result (λ memory. IsOpenWith K.Keeper self.new memory) }
     {
-        match self.confirm() {
-            Ok(()) => self.rows(),
+        match confirm(&mut self.keeper, &mut self.is_doubted) {
+            Ok(()) => match self.memory.take() {
+                Some(memory) => Ok(Some(memory)),
+                None => read_rows(self.alloc, &mut self.keeper, &mut self.is_passed_over),
+            },
             Err(fault) => Err(fault),
         }
     }
+}
 
-    /// After a change that failed, asks the keeper for the rooms: one that the failure shut refuses that, and counts it.
-    fn confirm(&mut self) -> Result<(), Fault>
-        ensures quiet { IsQuiet K.tables K.failures K.is_clean K.is_open K.may_leave (NeverFails K.Keeper) self.old self.new result }
-    {
-        if self.is_doubted {
-            if let Err(fault) = self.keeper.query(&Question::Rooms) {
-                return Err(fault);
-            }
-            self.is_doubted = false;
+/// After a change that failed, asks the keeper for the rooms: one that the failure shut refuses that, and counts it.
+fn confirm<K: Keeper>(keeper: &mut K, is_doubted: &mut bool) -> Result<(), Fault>
+    ensures recall { IsRecall K.Keeper keeper.old keeper.new result }
+    ensures confirmed { OnOk result (IsConfirmed K.Keeper keeper.old is_doubted.old keeper.new) }
+    ensures doubted { OnErr result (is_doubted.new ≡ true) }
+{
+    if *is_doubted {
+        if let Err(fault) = keeper.query(&Question::Rooms) {
+            return Err(fault);
         }
-        Ok(())
+        *is_doubted = false;
     }
+    Ok(())
+}
 
-    /// The rows in memory, which are read if they aren't there, or None.
-    fn rows(&mut self) -> Result<Option<Memory>, Fault>
-        ensures quiet { IsQuiet K.tables K.failures K.is_clean K.is_open K.may_leave (NeverFails K.Keeper) self.old self.new result }
-        ensures rows { IfOk result (λ memory. IsMemoryOf K.Keeper self.new memory) }
-    {
-        if let Some(memory) = self.memory.take() {
-            return Ok(Some(memory));
+/// All rows, or None if the keeper itself is to be asked.
+fn read_rows<K: Keeper>(
+    alloc: Global,
+    keeper: &mut K,
+    is_passed_over: &mut bool,
+) -> Result<Option<Memory>, Fault>
+    ensures recall { IsRecall K.Keeper keeper.old keeper.new result }
+    ensures rows { IfOk result (λ memory. IsMemoryOf K.Keeper keeper.new memory) }
+    ensures open { IfOk result (λ memory. IsOpenWith K.Keeper keeper.new memory) }
+{
+    if *is_passed_over {
+        return Ok(None);
+    }
+    match keeper.read() {
+        Ok(tables) => {
+            let memory = Memory::over(alloc, tables).ok();
+            *is_passed_over = memory.is_none();
+            Ok(memory)
         }
-        if self.is_passed_over {
-            return Ok(None);
-        }
-        match self.keeper.read() {
-            Ok(tables) => {
-                let memory = Memory::over(self.alloc, tables).ok();
-                self.is_passed_over = memory.is_none();
-                Ok(memory)
-            }
-            Err(fault) => {
-                self.is_passed_over = fault == Fault::OutOfMemory;
-                Err(fault)
-            }
+        Err(fault) => {
+            *is_passed_over = fault == Fault::OutOfMemory;
+            Err(fault)
         }
     }
 }
@@ -157,11 +165,13 @@ impl<K: Keeper> Keeper for Cached<K> {
 
     fn load(&mut self) -> Result<Desk, Fault> {
         let Some(memory) = self.recall()? else {
+            self.memory = None;
             return self.keeper.load();
         };
         let loaded = memory.load();
         let answer = told(loaded);
         if is_failure(&answer) {
+            self.memory = None;
             return self.keeper.load();
         }
         self.memory = Some(memory);
@@ -170,12 +180,14 @@ impl<K: Keeper> Keeper for Cached<K> {
 
     fn load_part(&mut self, scope: &Scope<'_>) -> Result<Part, Fault> {
         let Some(mut memory) = self.recall()? else {
+            self.memory = None;
             return self.keeper.load_part(scope);
         };
         memory.want_board(scope);
         let loaded = memory.load_part(scope);
         let answer = told(loaded);
         if is_failure(&answer) {
+            self.memory = None;
             return self.keeper.load_part(scope);
         }
         self.memory = Some(memory);
@@ -184,6 +196,7 @@ impl<K: Keeper> Keeper for Cached<K> {
 
     fn query(&mut self, question: &Question<'_>) -> Result<Answer, Fault> {
         let Some(memory) = self.recall()? else {
+            self.memory = None;
             return self.keeper.query(question);
         };
         let answer = memory.query(question);
@@ -193,6 +206,7 @@ impl<K: Keeper> Keeper for Cached<K> {
 
     fn read(&mut self) -> Result<Tables, Fault> {
         let Some(memory) = self.recall()? else {
+            self.memory = None;
             return self.keeper.read();
         };
         let answer = memory.read();

@@ -1,2 +1,3 @@
 pub mod ScanLemmas
 pub mod TableLemmas
+pub mod OpenLemmas

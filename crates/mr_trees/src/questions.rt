@@ -18,6 +18,7 @@ use crate::troubles::Trouble;
 use mr_base::{Day, RoomName};
 use mr_store::{Answer, Question, sort_bookings};
 use mr_tables::BookingRow;
+use sqlite_trees::error::StoreError;
 use sqlite_trees::store::Store;
 use std::alloc::{AllocError, Global};
 
@@ -110,6 +111,27 @@ fn answer<S: Store>(
     }
 }
 
+/// The same, of a store that is no broken transaction's, as a shut one is.
+fn answer_unbroken<S: Store>(
+    store: &mut S,
+    alloc: Global,
+    question: &Question<'_>,
+) -> Result<Answer, Trouble>
+    ensures ok { IfOk result (λ answer. IsClean (S.Store.view store.new) → IsAnswerTo question.now (tables_shown (S.Store.view store.old).trees) answer) }
+    ensures named { IfOk result (IsNamedAs question.now) }
+    ensures asked { OnOk result (IsClean (S.Store.view store.new) → IsTrue (S.Store.view store.old).is_open) }
+    ensures same { OnOk result (IsClean (S.Store.view store.new) → OnlyReads (S.Store.view store.old) (S.Store.view store.new)) }
+    ensures err { OnErr result (IsClean (S.Store.view store.new) → KeepsCommitted (S.Store.view store.old) (S.Store.view store.new)) }
+    ensures cause { IfErr result (λ e. IsClean (S.Store.view store.new)
+        → IsCause (S.Store.view store.old) (MoreFaults (S.Store.faults store.old) (S.Store.faults store.new)) (¬ AreOurRows (S.Store.view store.old).trees) e) }
+    ensures quiet { IsQuiet S.Store.view S.Store.faults S.Store.recovers S.Store.is_shielded store.old store.new }
+{
+    if store.is_broken() {
+        return Err(Trouble::Store(StoreError::Broken));
+    }
+    answer(store, alloc, question)
+}
+
 /// What the tables of a store answer to the question. Only rows that the answer needs are read: those of the room, and all of `room`. A failure
 /// leaves the store as it was, unless it shuts it.
 pub fn query<S: Store>(
@@ -121,13 +143,14 @@ pub fn query<S: Store>(
     ensures named { IfOk result (IsNamedAs question.now) }
     ensures clean { IsClean (S.Store.view store.new) → IsClean (S.Store.view store.old) }
     ensures opens { IsClean (S.Store.view store.new) → IsTrue (S.Store.view store.new).is_open → IsTrue (S.Store.view store.old).is_open }
+    ensures asked { OnOk result (IsClean (S.Store.view store.new) → IsTrue (S.Store.view store.old).is_open) }
     ensures lasts { OnOk result (IsClean (S.Store.view store.new) → IsTrue (S.Store.view store.old).is_open → IsTrue (S.Store.view store.new).is_open) }
     ensures stays { IsClean (S.Store.view store.new) → IsTrue (S.Store.view store.new).is_open → IsCalm (S.Store.view store.old) → Stays (S.Store.view store.old) (S.Store.view store.new) }
     ensures cause { IfErr result (λ e. IsClean (S.Store.view store.new)
         → IsCause (S.Store.view store.old) (MoreFaults (S.Store.faults store.old) (S.Store.faults store.new)) (¬ AreOurRows (S.Store.view store.old).trees) e) }
     ensures crash { (db : Trees) → S.Store.recovers store.new db → S.Store.recovers store.old db }
 {
-    let outcome = answer(store, alloc, question);
+    let outcome = answer_unbroken(store, alloc, question);
     if outcome.is_err() {
         store.rollback();
     }

@@ -13,7 +13,7 @@ use Rattle.mr_service.proofs.changing.batch_for.Goals as goal
 pub returns-in_err-position : goal.returns-in_err-position
 returns-in_err-position g c =
     let p = err_from_is_err_and c.from_residual.result c.from_residual.ensures.1 in
-    record { served = rw (p.1, p.2) (unread g.K.Keeper c.args.keeper.now (BatchFor c.args.position.now c.args.max_lines) c.in_err-position.field-0.0 (word_step (g.K.Keeper.tables c.args.keeper.now) (BatchFor c.args.position.now c.args.max_lines) c.in_err-position.field-0.0 (words.position_refused c.args.position.now c.args.max_lines c.in_err-position.field-0.0 c.in_err-position.ensures.exact)) (words.position_not_store c.args.position.now c.in_err-position.field-0.0 c.in_err-position.ensures.exact)) }
+    record { served = rw (p.1, p.2) (unread g.K.Keeper c.args.keeper.now (BatchFor c.args.position.now c.args.max_lines) c.in_err-position.field-0.0 (λ t. word_step t (BatchFor c.args.position.now c.args.max_lines) c.in_err-position.field-0.0 (words.position_refused c.args.position.now c.args.max_lines c.in_err-position.field-0.0 c.in_err-position.ensures.exact)) (words.position_not_store c.args.position.now c.in_err-position.field-0.0 c.in_err-position.ensures.exact)) }
 
 pub returns-in_err-part : goal.returns-in_err-part
 returns-in_err-part g c =

@@ -12,7 +12,7 @@ use Rattle.mr_service.proofs.changing.cancel_of.Goals as goal
 pub returns-in_err-room : goal.returns-in_err-room
 returns-in_err-room g c =
     let p = err_from_is_err_and c.from_residual.result c.from_residual.ensures.1 in
-    record { served = rw (p.1, p.2) (unread g.K.Keeper c.args.keeper.now (Cancel c.args.room.now c.args.id.now) c.in_err-room.field-0.0 (word_step (g.K.Keeper.tables c.args.keeper.now) (Cancel c.args.room.now c.args.id.now) c.in_err-room.field-0.0 (words.cancel_refused c.args.room.now c.args.id.now c.in_err-room.field-0.0 c.in_err-room.ensures.value)) (words.room_not_store (is_room_name c.args.room.now) c.args.room.now c.in_err-room.field-0.0 c.in_err-room.ensures.value)) }
+    record { served = rw (p.1, p.2) (unread g.K.Keeper c.args.keeper.now (Cancel c.args.room.now c.args.id.now) c.in_err-room.field-0.0 (λ t. word_step t (Cancel c.args.room.now c.args.id.now) c.in_err-room.field-0.0 (words.cancel_refused c.args.room.now c.args.id.now c.in_err-room.field-0.0 c.in_err-room.ensures.value)) (words.room_not_store (is_room_name c.args.room.now) c.args.room.now c.in_err-room.field-0.0 c.in_err-room.ensures.value)) }
 
 pub returns-in_err-part : goal.returns-in_err-part
 returns-in_err-part g c =

@@ -15,7 +15,7 @@ use Rattle.mr_service.proofs.changing.receive.Goals as goal
 pub returns-in_err-batch : goal.returns-in_err-batch
 returns-in_err-batch g c =
     let p = err_from_is_err_and c.from_residual.result c.from_residual.ensures.1 in
-    record { served = rw (p.1, p.2) (unread g.K.Keeper c.args.keeper.now (Receive c.args.bytes.now) c.in_err-batch.field-0.0 (word_step (g.K.Keeper.tables c.args.keeper.now) (Receive c.args.bytes.now) c.in_err-batch.field-0.0 (words.batch_refused c.args.bytes.now c.in_err-batch.field-0.0 c.in_err-batch.ensures.exact)) (words.batch_not_store c.args.bytes.now c.in_err-batch.field-0.0 c.in_err-batch.ensures.refuses)) }
+    record { served = rw (p.1, p.2) (unread g.K.Keeper c.args.keeper.now (Receive c.args.bytes.now) c.in_err-batch.field-0.0 (λ t. word_step t (Receive c.args.bytes.now) c.in_err-batch.field-0.0 (words.batch_refused c.args.bytes.now c.in_err-batch.field-0.0 c.in_err-batch.ensures.exact)) (words.batch_not_store c.args.bytes.now c.in_err-batch.field-0.0 c.in_err-batch.ensures.refuses)) }
 
 pub returns-in_err-part : goal.returns-in_err-part
 returns-in_err-part g c =

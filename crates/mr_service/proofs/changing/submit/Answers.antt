@@ -15,7 +15,7 @@ use Rattle.mr_service.proofs.changing.submit.Goals as goal
 pub returns-in_err-request-clause-served : goal.returns-in_err-request-clause-served
 returns-in_err-request-clause-served g c =
     let p = err_from_is_err_and c.from_residual.result c.from_residual.ensures.1 in
-    rw (p.1, p.2) (unread g.K.Keeper c.args.keeper.now (Submit (submission_of c.args.words.now)) c.in_err-request.field-0.0 (word_step (g.K.Keeper.tables c.args.keeper.now) (Submit (submission_of c.args.words.now)) c.in_err-request.field-0.0 (words.submission_refused (submission_of c.args.words.now) c.in_err-request.field-0.0 c.in_err-request.ensures.value)) (words.submission_not_store (submission_of c.args.words.now) c.in_err-request.field-0.0 c.in_err-request.ensures.value))
+    rw (p.1, p.2) (unread g.K.Keeper c.args.keeper.now (Submit (submission_of c.args.words.now)) c.in_err-request.field-0.0 (λ t. word_step t (Submit (submission_of c.args.words.now)) c.in_err-request.field-0.0 (words.submission_refused (submission_of c.args.words.now) c.in_err-request.field-0.0 c.in_err-request.ensures.value)) (words.submission_not_store (submission_of c.args.words.now) c.in_err-request.field-0.0 c.in_err-request.ensures.value))
 
 pub returns-in_err-part-clause-served : goal.returns-in_err-part-clause-served
 returns-in_err-part-clause-served g c =

@@ -1,4 +1,4 @@
-use Rattle.std.proofs.Common.{◌≡◌, ◌∙◌, subst}
+use Rattle.std.proofs.Common.{◌≡◌, refl, ◌∙◌, subst}
 use Rattle.std.proofs.lemmas.Result.{err_from_is_err_and}
 use Rattle.mr_model.specs.Step.{Ask}
 use Rattle.mr_model.specs.View.{AskCalendar}
@@ -13,6 +13,7 @@ returns-in_err-room g c =
     let p = err_from_is_err_and c.from_residual.result c.from_residual.ensures.1 in
     record {
       served = rw (p.1, p.2) (refused_by g.K.Keeper c.args.keeper.now c.known_room.new.keeper c.in_err-room.field-0.0 (Ask c.args.room.now (AskCalendar (part_seen c.args.part))) c.in_err-room.ensures.read
+          (λ u. steps.refused_anywhere (Ask c.args.room.now (AskCalendar (part_seen c.args.part))) c.args.room.now c.in_err-room.field-0.0 (λ t finds. steps.calendar_refused t t c.args.room.now (part_seen c.args.part) c.in_err-room.field-0.0 refl finds) (c.in_err-room.ensures.refuses u))
           (λ u o. steps.calendar_refused (g.K.Keeper.tables c.args.keeper.now) (g.K.Keeper.tables c.known_room.new.keeper) c.args.room.now (part_seen c.args.part) c.in_err-room.field-0.0 (c.known_room.ensures.read.same u o) (c.in_err-room.ensures.finds u (c.known_room.ensures.read.opens u o))));
     }
 

@@ -1,4 +1,4 @@
-use Rattle.std.proofs.Common.{◌≡◌, ◌∙◌, subst, Some}
+use Rattle.std.proofs.Common.{◌≡◌, refl, ◌∙◌, subst, Some}
 use Rattle.std.proofs.lemmas.Result.{err_from_is_err_and}
 use Rattle.mr_model.specs.Step.{Ask}
 use Rattle.mr_model.specs.View.{AskSheet}
@@ -10,13 +10,14 @@ use Rattle.mr_service.proofs.questions.sheet.Goals as goal
 pub returns-in_err-day : goal.returns-in_err-day
 returns-in_err-day g c =
     let p = err_from_is_err_and c.from_residual.result c.from_residual.ensures.1 in
-    record { served = rw (p.1, p.2) (unread g.K.Keeper c.args.keeper.now (Ask c.args.room.now (AskSheet c.args.day.now)) c.in_err-day.field-0.0 (steps.day_refused (g.K.Keeper.tables c.args.keeper.now) c.args.room.now c.args.day.now c.in_err-day.field-0.0 c.in_err-day.ensures.value) (steps.day_not_store c.args.day.now c.in_err-day.field-0.0 c.in_err-day.ensures.value)) }
+    record { served = rw (p.1, p.2) (unread g.K.Keeper c.args.keeper.now (Ask c.args.room.now (AskSheet c.args.day.now)) c.in_err-day.field-0.0 (λ t. steps.day_refused t c.args.room.now c.args.day.now c.in_err-day.field-0.0 c.in_err-day.ensures.value) (steps.day_not_store c.args.day.now c.in_err-day.field-0.0 c.in_err-day.ensures.value)) }
 
 pub returns-in_err-room : goal.returns-in_err-room
 returns-in_err-room g c =
     let p = err_from_is_err_and c.from_residual-in_err-room.result c.from_residual-in_err-room.ensures.1 in
     record {
       served = rw (p.1, p.2) (refused_by g.K.Keeper c.args.keeper.now c.known_room.new.keeper c.in_err-room.field-0.0 (Ask c.args.room.now (AskSheet c.args.day.now)) c.in_err-room.ensures.read
+          (λ u. steps.refused_anywhere (Ask c.args.room.now (AskSheet c.args.day.now)) c.args.room.now c.in_err-room.field-0.0 (λ t finds. steps.sheet_refused t t c.args.room.now c.args.day.now c.in_ok-day.day c.in_err-room.field-0.0 c.in_ok-day.ensures.value refl finds) (c.in_err-room.ensures.refuses u))
           (λ u o. steps.sheet_refused (g.K.Keeper.tables c.args.keeper.now) (g.K.Keeper.tables c.known_room.new.keeper) c.args.room.now c.args.day.now c.in_ok-day.day c.in_err-room.field-0.0 c.in_ok-day.ensures.value (c.known_room.ensures.read.same u o) (c.in_err-room.ensures.finds u (c.known_room.ensures.read.opens u o))));
     }
 

@@ -33,6 +33,12 @@ returns-clause-settled g c = c.serve.ensures.served.settled
 pub returns-clause-crash : goal.returns-clause-crash
 returns-clause-crash g c = c.serve.ensures.served.crash
 
+pub returns-clause-answered : goal.returns-clause-answered
+returns-clause-answered g c = c.serve.ensures.served.answered
+
+pub returns-clause-shut : goal.returns-clause-shut
+returns-clause-shut g c = c.serve.ensures.served.shut
+
 pub returns-clause-replied : goal.returns-clause-replied
 returns-clause-replied g c =
     replied_by g.K.Keeper c.args.self.now c.serve.new.self (command_seen c.args.command.now) (reply_of c.serve.result) c.serve.ensures.served

@@ -1,8 +1,14 @@
-use Rattle.mr_store.proofs.Remembered.{both, refused_above}
+use Rattle.std.proofs.Common.{Err, subst}
+use Rattle.mr_store.specs.Cached.{IsRecall}
+use Rattle.mr_store.proofs.Remembered.{both, recall_refused}
 use Rattle.mr_store.proofs.cached.Cached.recall.Goals as goal
 
-pub returns-in-Ok-clause-quiet : goal.returns-in-Ok-clause-quiet
-returns-in-Ok-clause-quiet g c = both g.K.Keeper c.args.self.now c.confirm.new.self c.rows.new.self _ c.rows.result c.in-Ok.ensures.quiet c.rows.ensures.quiet
+pub returns-in-None-clause-recall : goal.returns-in-None-clause-recall
+returns-in-None-clause-recall g c =
+    subst (λ old. IsRecall g.K.Keeper old c.read_rows.new.keeper c.read_rows.result) c.self.view_is
+    (both g.K.Keeper c.self.inside.keeper c.confirm.new.keeper c.read_rows.new.keeper tt c.read_rows.result c.in-Ok.ensures.recall c.read_rows.ensures.recall)
 
-pub returns-in-Err-clause-quiet : goal.returns-in-Err-clause-quiet
-returns-in-Err-clause-quiet g c = refused_above g.K.Keeper c.args.self.now c.confirm.new.self c.in-Err.fault c.in-Err.ensures.quiet
+pub returns-in-Err-clause-recall : goal.returns-in-Err-clause-recall
+returns-in-Err-clause-recall g c =
+    subst (λ old. IsRecall g.K.Keeper old c.confirm.new.keeper (Err c.in-Err.fault)) c.self.view_is
+    (recall_refused g.K.Keeper c.self.inside.keeper c.confirm.new.keeper c.in-Err.fault c.in-Err.ensures.recall)

@@ -3,4 +3,4 @@ use Rattle.mr_store.proofs.cached.CachedKeeper.read.Goals as goal
 
 pub returns-in_default-clause-quiet : goal.returns-in_default-clause-quiet
 returns-in_default-clause-quiet g c =
-    followed g.K.Keeper c.args.self.now c.recall.new.self c.self.inside.keeper c.read.new.self c.in_ok-memory.field-0 c.read.result c.in_ok-memory.ensures.quiet c.self.view_is c.read.ensures.quiet
+    followed g.K.Keeper c.args.self.now c.recall.new.self c.self.inside.keeper c.read.new.self c.in_ok-memory.field-0 c.read.result c.in_ok-memory.ensures.recall c.self.view_is c.read.ensures.quiet

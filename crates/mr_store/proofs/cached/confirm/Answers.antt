@@ -1,0 +1,5 @@
+use Rattle.mr_store.proofs.Remembered.{recall_failed}
+use Rattle.mr_store.proofs.cached.confirm.Goals as goal
+
+pub returns-in-Err-clause-recall : goal.returns-in-Err-clause-recall
+returns-in-Err-clause-recall g c = recall_failed g.K.Keeper c.args.keeper.now c.query.new.self c.in-Err.fault c.in-Err.ensures.quiet
