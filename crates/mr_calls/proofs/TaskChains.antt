@@ -21,7 +21,7 @@ use Rattle.mr_words.specs.declared.invocations.Task.{Task}
 use Rattle.mr_words.specs.declared.invocations.Task.TheVariants as tasks
 use Rattle.mr_tasks.specs.CommandEffects.{TellsFault, TellsWritten}
 use Rattle.mr_tasks.specs.Tasks.{IsAboutRoom, IsCommandFor, OnlyReads, TellsTo, file_for}
-use Rattle.mr_offices.specs.Happenings.{IsAsked, IsFrontOf, restarted, reopened_at, texts_after}
+use Rattle.mr_offices.specs.Happenings.{IsAsked, IsFrontOf, reopened, reopened_at, texts_after}
 use Rattle.mr_branches.specs.Sights.{sight_of}
 use Rattle.mr_branches.proofs.PullRuns.{get_set}
 use Rattle.mr_branches.proofs.Served.{served_is_called}
@@ -32,9 +32,9 @@ use Rattle.mr_calls.proofs.CallChains.{calls_happen}
 
 -- it is one call, or none
 pub tasks_calls : {K : Type 0} (k : Ghosts K) → TasksAreCalls k
-tasks_calls k asked old new held holds status (inl (c, reply, is, served, told)) clean opened =
-    ((c, reply) ∷ [], (is, told), (new, served_is_called k old new c reply served.0 clean opened, inr refl, refl))
-tasks_calls k asked old new held holds status (inr (same, fault)) clean opened = ([], fault, same)
+tasks_calls k asked old new held holds status (inl (c, reply, is, served, told)) clean =
+    ((c, reply) ∷ [], (is, told), (new, served_is_called k old new c reply served.0 clean, inr refl, refl))
+tasks_calls k asked old new held holds status (inr (same, fault)) clean = ([], fault, same)
 
 -- a keeper that is clean behind a task was so before it
 clean_before : {K : Type 0} (k : Ghosts K) (asked : Task) (old new : K) (held holds : Option Text) (status : ℕ) → DoesTask k asked old new held holds status → k.is_clean new → k.is_clean old
@@ -47,15 +47,15 @@ openings_reopen k old new is clean found = record { opens = is.opens clean; foun
 
 -- it happens
 pub tasks_happen : {K : Type 0} (k : Ghosts K) → TasksHappen k
-tasks_happen k v place o asked opened new held holds status at up found is does clean =
+tasks_happen k v place o asked opened new held holds status at doubted found is does clean =
     let clean_opened = clean_before k asked opened new held holds status does clean in
     let again = openings_reopen k o.keeper opened is clean_opened found in
-    let (calls, of, are) = tasks_calls k asked opened new held holds status does clean (is.opens clean_opened) in
+    let (calls, of, are) = tasks_calls k asked opened new held holds status does clean in
     let one = office_opened o opened in (
       calls,
       of,
-      λ from. restarted place o opened at up again
-          (calls_happen (sight_of k) (reopened_at v place o opened) place one calls new (get_set v.offices place one o at) refl from are),
+      λ from. reopened place o opened at doubted again
+          (calls_happen (sight_of k) (reopened_at v place o opened) place one calls new (get_set v.offices place one o at) from are),
     )
 
 -- ---- questions of copies
@@ -76,8 +76,9 @@ questions_calls k copy database old new c reply opened settled found is asked cl
     let same = settled (copy.tables old) found in
     let replied = asked.1 clean (is.opens (asked.0.clean clean)) in
     record {
-      opened = opened;
-      lasts = inr opened;
+      opens = λ now. now;
+      answered = inl opened;
+      lasts = λ was. inr was;
       step = λ now a stands. (a, question_steps a c reply (only_reads c question) (replied a (subst (λ t. Stands t a) (sym same) stands)), stands);
       refused = λ now machine. refl;
       settled = λ now was. was;

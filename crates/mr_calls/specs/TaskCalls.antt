@@ -1,5 +1,5 @@
 -- What a command without a socket asks of a database, as calls of it: an import, an export, a question, a booking and the others.
-use Rattle.std.specs.Prelude.{◌≡◌, ◌≢◌, ◌⊎◌, ℕ, List, [], ◌∷◌, take, Option, Some, None, slice_get, IsTrue, ⊤}
+use Rattle.std.specs.Prelude.{◌≡◌, ◌≢◌, ◌⊎◌, ℕ, List, [], ◌∷◌, take, Option, Some, ◌++◌, slice_get, IsTrue, ⊤}
 use Rattle.std.specs.List.{AllByRecursion}
 use Rattle.std.specs.declared.string.String.{String}
 use Rattle.std.specs.declared.alloc.Global.{Global}
@@ -15,7 +15,7 @@ use Rattle.mr_words.specs.declared.invocations.Task.TheVariants as tasks
 use Rattle.mr_tasks.specs.CommandEffects.{IsCommandAsked, TellsFault}
 use Rattle.mr_tasks.specs.Tasks.{IsAboutRoom, IsAnswered, IsCommandFor, IsCommandWith, IsOpened, IsOpenedFor, OnlyReads, TellsTo, file_for}
 use Rattle.mr_offices.specs.Standing.{LeavesAlone, Office, Offices}
-use Rattle.mr_offices.specs.Happenings.{AreHappenings, IsAsked, IsCalled, IsFounded, IsFrontOf, IsReopened, first_server, reopened_at}
+use Rattle.mr_offices.specs.Happenings.{AreHappenings, AreInDoubt, IsAsked, IsCalled, IsFounded, IsFrontOf, IsReopened, acts_in_doubt, first_server, reopened_at, unheard}
 use Rattle.mr_branches.specs.Sights.{sight_of}
 use Rattle.mr_calls.specs.Calls.{AreAsked, AreCalls, acts_of, heard_of, offices_behind, texts_behind}
 
@@ -38,7 +38,7 @@ AreOfTask task held holds status (c ∷ d ∷ cs) = ⊥
 abbrev pub TasksAreCalls : {K : Type 0} → Ghosts K → Type 0
 TasksAreCalls {K} keeper =
     (task : Task) (old new : K) (held holds : Option Text) (status : ℕ)
-    → DoesTask keeper task old new held holds status → keeper.is_clean new → keeper.is_open old
+    → DoesTask keeper task old new held holds status → keeper.is_clean new
     → (calls : List (Command × Reply)) × AreOfTask task held holds status calls × AreCalls (sight_of keeper) old calls new
 
 -- ---- at an office
@@ -50,17 +50,17 @@ OpeningsReopen {K} keeper =
 
 -- the office with its database as it was just opened
 abbrev pub office_opened : {K : Type 0} → Office K → K → Office K
-office_opened o opened = record o { keeper = opened; pending = None }
+office_opened o opened = record o { keeper = opened; pending = [] }
 
--- A task at an office that nothing has left in doubt: its database is opened again as a crash could leave it, and asked one command, or none; that happens.
+-- A task at an office: its database is opened again as a crash could leave it, whatever was in doubt, and asked one command, or none; that happens.
 abbrev pub TasksHappen : {K : Type 0} → Ghosts K → Type 0
 TasksHappen {K} keeper =
     (v : Offices K) (place : ℕ) (o : Office K) (task : Task) (opened new : K) (held holds : Option Text) (status : ℕ)
-    → slice_get v.offices place ≡ Some o → o.pending ≡ None → keeper.may_leave o.keeper (keeper.tables opened) → IsOpened keeper opened
+    → slice_get v.offices place ≡ Some o → (doubted : AreInDoubt v.texts o.pending) → keeper.may_leave o.keeper (keeper.tables opened) → IsOpened keeper opened
     → DoesTask keeper task opened new held holds status → keeper.is_clean new
     → (calls : List (Command × Reply)) × AreOfTask task held holds status calls
     × ((asked : AreAsked v.texts calls)
-    → AreHappenings (sight_of keeper) v (acts_of v.texts o.server calls asked) (heard_of v.texts calls)
+    → AreHappenings (sight_of keeper) v (acts_in_doubt v.texts o.server o.pending doubted ++ acts_of v.texts o.server calls asked) (unheard o.pending ++ heard_of v.texts calls)
     (offices_behind (reopened_at v place o opened) place (office_opened o opened) calls new))
 
 -- A question that is asked of a copy of the database, with tables that a crash could leave of it, is a call of the database, which leaves that as it is.

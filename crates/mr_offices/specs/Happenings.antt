@@ -94,14 +94,14 @@ pub record IsReopened {K : Type 0} (sight : Sight K) (old new : K) : Type 0 wher
   pub settled : LeavesAlone (sight.may_leave new) (sight.tables new)
 
 -- what is received by commands in doubt is a prefix of a batch each
-abbrev pub AreAsked : List Text → List Command → Type 0
-AreAsked texts [] = Unit {0}
-AreAsked texts (c ∷ cs) = IsAsked texts c × AreAsked texts cs
+abbrev pub AreInDoubt : List Text → List Command → Type 0
+AreInDoubt texts [] = Unit {0}
+AreInDoubt texts (c ∷ cs) = IsAsked texts c × AreInDoubt texts cs
 
 -- the acts that they are, in the order in which they were asked; nothing is heard of any
-abbrev pub acts_of : (texts : List Text) → ℕ → (pending : List Command) → AreAsked texts pending → List Act
-acts_of texts server [] from = []
-acts_of texts server (c ∷ cs) from = act_of texts server c from.0 ∷ acts_of texts server cs from.1
+abbrev pub acts_in_doubt : (texts : List Text) → ℕ → (pending : List Command) → AreInDoubt texts pending → List Act
+acts_in_doubt texts server [] from = []
+acts_in_doubt texts server (c ∷ cs) from = act_of texts server c from.0 ∷ acts_in_doubt texts server cs from.1
 
 abbrev pub unheard : List Command → List (Option StepReply)
 unheard pending = map (λ c. None) pending
@@ -143,9 +143,9 @@ CallsAreActs {K} sight =
 abbrev pub ReopeningsAreActs : {K : Type 0} → Sight K → Type 0
 ReopeningsAreActs {K} sight =
     (v : Offices K) (w : World) (place : ℕ) (o : Office K) (new : K)
-    → IsHonest w → StandFor sight v w → slice_get v.offices place ≡ Some o → (from : AreAsked v.texts o.pending) → IsReopened sight o.keeper new
-    → (end : World) × IsOfficeRun w (acts_of v.texts o.server o.pending from) (unheard o.pending) end
-    × IsAfterOneOrNone w (acts_of v.texts o.server o.pending from) end × StandFor sight (reopened_at v place o new) end
+    → IsHonest w → StandFor sight v w → slice_get v.offices place ≡ Some o → (from : AreInDoubt v.texts o.pending) → IsReopened sight o.keeper new
+    → (end : World) × IsOfficeRun w (acts_in_doubt v.texts o.server o.pending from) (unheard o.pending) end
+    × IsAfterOneOrNone w (acts_in_doubt v.texts o.server o.pending from) end × StandFor sight (reopened_at v place o new) end
 
 abbrev pub FoundingsAreActs : {K : Type 0} → Sight K → Type 0
 FoundingsAreActs {K} sight =
@@ -164,9 +164,9 @@ pub data AreHappenings {K : Type 0} (sight : Sight K) : Offices K → List Act �
       → AreHappenings sight (offices_after v place o new c reply) acts heard end
       → AreHappenings sight v (act_of v.texts o.server c from ∷ acts) (Some (reply_heard v.texts c reply) ∷ heard) end
   reopened : {v end : Offices K} {acts : List Act} {heard : List (Option StepReply)} (place : ℕ) (o : Office K) (new : K)
-      → slice_get v.offices place ≡ Some o → (from : AreAsked v.texts o.pending) → IsReopened sight o.keeper new
+      → slice_get v.offices place ≡ Some o → (from : AreInDoubt v.texts o.pending) → IsReopened sight o.keeper new
       → AreHappenings sight (reopened_at v place o new) acts heard end
-      → AreHappenings sight v (acts_of v.texts o.server o.pending from ++ acts) (unheard o.pending ++ heard) end
+      → AreHappenings sight v (acts_in_doubt v.texts o.server o.pending from ++ acts) (unheard o.pending ++ heard) end
   new_office : {v end : Offices K} {acts : List Act} {heard : List (Option StepReply)} (server : ℕ) (new : K)
       → IsFounded sight v server new → AreHappenings sight (founded v server new) acts heard end
       → AreHappenings sight v (Within (Add server) ∷ acts) (Some Added ∷ heard) end
