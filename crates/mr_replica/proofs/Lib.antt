@@ -14,5 +14,6 @@ pub mod ReplicaOrder
 pub mod RowsById
 pub mod SameMembers
 pub mod ScopeRows
+pub mod SharedLogs
 pub mod Steps
 pub mod Taken

@@ -23,10 +23,10 @@ use crate::indexed::Indexed;
 use crate::order::are_in_order;
 use crate::puts::{put_rows, with_rows};
 use crate::shared_board::{board_after, is_of_rooms, shared_board};
-use crate::shared_log::shared_log;
+use crate::shared_log::{log_after, shared_log};
 use crate::writes::Writes;
 use crate::{Answer, Desk, Question};
-use mr_base::{Item, Refusal, RoomName, ServerId, WriteId};
+use mr_base::{Refusal, RoomName, ServerId, WriteId};
 use mr_part::kept_rows::KeptRow;
 use mr_part::{Part, Scope};
 use mr_replay::Board;
@@ -55,8 +55,8 @@ pub struct Memory {
     pub(crate) writes: Writes,
     /// The board that the tables tell, if it is there. Parts that go by rooms share it.
     board: Option<Rc<Board>>,
-    /// All kept writes in the order of execution, from when an office asks for many of them until the next change. Parts for batches
-    /// share them.
+    /// All kept writes in the order of execution, from when an office asks for many of them until a change moves one of them past another.
+    /// Parts for batches share them.
     log: Option<Rc<Vec<KeptRow>>>,
 }
 
@@ -66,7 +66,7 @@ impl Model for Memory {
     ghost view = { λ m. tables_with m.meta m.room.items m.vector.items m.writes };
 
     ghost invariant = { λ m. IfSome m.board (λ board. board.value ≡ board_of (tables_with m.meta m.room.items m.vector.items m.writes))
-        × IfSome m.log (λ log. IsSharedLog (tables_with m.meta m.room.items m.vector.items m.writes) log.value.items) };
+        × IfSome m.log (λ log. IsSharedLog m.writes.log.rows log.value.items) };
 }
 
 impl Memory {
@@ -152,19 +152,7 @@ impl Memory {
     fn make_log(&mut self)
         ensures { self.new ≡ self.old }
     {
-        self.log = self.log_made();
-    }
-
-    /// All kept writes in the order of execution, if memory takes them.
-    fn log_made(&self) -> Option<Rc<Vec<KeptRow>>>
-        ensures { IfSome result (λ log. IsSharedLog self.now log.value.items) }
-    {
-        // For the prover alone: a scope may hold items.
-        let _none: Option<&Item> = None;
-        match self.rows_of_log(&Scope::Above(0)) {
-            Ok(tables) => shared_log(self.alloc, &tables),
-            Err(_) => None,
-        }
+        self.log = shared_log(self.alloc, &self.writes.log);
     }
 
     /// Whether a batch may be made of so many rows of the log that a log to be shared is worth its memory.
@@ -192,9 +180,10 @@ impl Memory {
         ensures refused { OnErr result (self.new ≡ self.old) }
     {
         let alloc = self.alloc;
-        self.log = None;
+        let log = self.log.take();
         let room = with_rows(alloc, &self.room, &change.room)?;
         let vector = with_rows(alloc, &self.vector, &change.vector)?;
+        let log = log_after(alloc, log, &self.writes.log, change);
         self.writes.apply(alloc, change)?;
         let board = self.board.take();
         self.meta = change.meta;
@@ -202,6 +191,7 @@ impl Memory {
         put_rows(&mut self.vector, vector);
         self.have_one_row_each();
         self.board = board_after(alloc, board, change, self);
+        self.log = log;
         Ok(())
     }
 

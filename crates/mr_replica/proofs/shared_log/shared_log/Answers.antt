@@ -1,10 +1,7 @@
-use Rattle.std.proofs.Common.{◌∙◌, Option, Some, None, IfSome}
+use Rattle.std.proofs.Common.{sym, subst}
+use Rattle.mr_replica.specs.SharedLog.{IsSharedLog}
+use Rattle.mr_replica.proofs.SharedLogs.{if_some}
 use Rattle.mr_replica.proofs.shared_log.shared_log.Goals as goal
 
--- what holds of each that has the first property
-told : {X : Type 0} {P Q : X → Type 0} (o : Option X) → ((x : X) → P x → Q x) → IfSome o P → IfSome o Q
-told None up h = tt
-told (Some x) up h = up x h
-
 pub returns-in-Ok : goal.returns-in-Ok
-returns-in-Ok c = told c.shared.result (λ log is a h e. is ∙ c.in-Ok.ensures.rows a h e) c.shared.ensures
+returns-in-Ok c = if_some c.shared.result (λ log is. subst (IsSharedLog c.args.table.now.rows) (sym is) c.in-Ok.ensures) c.shared.ensures

@@ -3,11 +3,13 @@ use Rattle.std.specs.Prelude.{IfErr, IfOk}
 use Rattle.std.proofs.lemmas.Result.{err_from_is_err_and}
 use Rattle.mr_base.specs.declared.refusals.Refusal.TheVariants.{OutOfMemory}
 use Rattle.mr_model.specs.Scopes.{in_scope}
-use Rattle.mr_model.specs.Tables.{Stands}
+use Rattle.mr_model.specs.Tables.{Tables}
 use Rattle.mr_part.specs.Parts.{IsPartOf, without_bookings}
 use Rattle.mr_part.specs.ScopeOf.{scope_of}
 use Rattle.mr_tables.specs.Boards.{board_of}
 use Rattle.mr_replica.specs.Needed.{is_of_rooms}
+use Rattle.mr_replica.specs.SharedLog.{IsSharedLog}
+use Rattle.mr_replica.proofs.SharedLogs.{shared_is}
 use Rattle.mr_replica.proofs.ScopeRows.{by_rooms, rooms_scope, some_of}
 use Rattle.mr_replica.proofs.memory.Memory.part_for.Goals as goal
 
@@ -50,5 +52,6 @@ returns-in_err-tables-clause-only c = λ a h.
 
 pub returns-in-Above-clause-loaded : goal.returns-in-Above-clause-loaded
 returns-in-Above-clause-loaded c = λ a h.
-    let log = some_of _ c.self.inside.log c.in-Some-log.log c.in-Some-log.is c.self.invariant.1 a (subst (λ t. Stands t a) (sym c.self.view_is) h) in
+    let shared = subst (λ (t : Tables). IsSharedLog t.log c.in-Some-log.log.value.items) c.self.view_is (some_of _ c.self.inside.log c.in-Some-log.log c.in-Some-log.is c.self.invariant.1) in
+    let log = shared_is c.args.self.now a c.in-Some-log.log.value.items h shared in
     subst (λ s. IfOk c.part_above.result (λ part. IsPartOf part (scope_of s) a)) (sym c.in-Above.is) (c.part_above.ensures.loaded a h log)
