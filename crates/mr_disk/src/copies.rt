@@ -67,7 +67,7 @@ pub fn copy_of(rt: &HostRuntime, path: &str) -> Result<Option<Copied>, OpenError
 }
 
 /// A regular file with one name that is no link, to be read, which nobody else has locked for itself alone.
-fn open_shared(rt: &HostRuntime, path: &str) -> Result<File, OpenError> {
+pub(crate) fn open_shared(rt: &HostRuntime, path: &str) -> Result<File, OpenError> {
     // What would wait for another end, as a pipe, isn't opened.
     if !fs::symlink_metadata(rt, path)?.is_file() {
         return Err(OpenError::Io(ErrorKind::Unsupported.into()));
@@ -92,7 +92,7 @@ fn open_shared(rt: &HostRuntime, path: &str) -> Result<File, OpenError> {
 
 /// The bytes of the log. If it has a frame, it may be that of a program that was killed before it synced: so it is synced first, since
 /// what is shown of it has to outlast a crash of the machine.
-fn read_log(rt: &HostRuntime, path: &str) -> Result<Vec<u8>, OpenError> {
+pub(crate) fn read_log(rt: &HostRuntime, path: &str) -> Result<Vec<u8>, OpenError> {
     if !is_there(rt, path)? {
         return Ok(Vec::new(rt.alloc()));
     }
@@ -128,7 +128,7 @@ fn read_whole(rt: &HostRuntime, file: &mut File) -> io::Result<Vec<u8>> {
     Ok(bytes)
 }
 
-fn is_there(rt: &HostRuntime, path: &str) -> io::Result<bool> {
+pub(crate) fn is_there(rt: &HostRuntime, path: &str) -> io::Result<bool> {
     match fs::symlink_metadata(rt, path) {
         Ok(_) => Ok(true),
         Err(error) if error.kind() == ErrorKind::NotFound => Ok(false),
@@ -137,7 +137,7 @@ fn is_there(rt: &HostRuntime, path: &str) -> io::Result<bool> {
 }
 
 /// A journal that is missing, is empty or begins with a zero has nothing to play back. Anything there but a regular file counts as one.
-fn has_hot_journal(rt: &HostRuntime, path: &str) -> io::Result<bool> {
+pub(crate) fn has_hot_journal(rt: &HostRuntime, path: &str) -> io::Result<bool> {
     match fs::symlink_metadata(rt, path) {
         Ok(found) if found.is_file() => {}
         Ok(_) => return Ok(true),

@@ -4,8 +4,13 @@
 
 mod copies;
 mod files;
+mod questioned;
+mod record;
+mod shared;
 mod sparing;
 
 pub use copies::{Copied, copy_of};
 pub use files::{SparingFile, open};
+pub use questioned::{LogIndex, SharedFile, open_to_read};
+pub use shared::Shared;
 pub use sparing::Sparing;
