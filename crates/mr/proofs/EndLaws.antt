@@ -22,7 +22,8 @@ use Rattle.mr_words.specs.declared.invocations.WordFault.{WordFault}
 use Rattle.mr_words.specs.declared.invocations.WordFault.TheVariants as faults
 use Rattle.mr_tasks.specs.Rehearsed.{bad_words_line}
 use Rattle.mr_tasks.specs.CommandEffects.{TellsFault, TellsLength, TellsWritten}
-use Rattle.mr_tasks.specs.Tasks.{IsCommandFor, IsReceive, IsBatchFor, IsOfDatabase, TellsUnopened, EndsAsking, EndsAskingEither, EndsAskingOne, EndsRehearsal, IsAboutRoom, IsAnswered, IsOpened, OnlyReads, TellsTo, file_for}
+use Rattle.mr_tasks.specs.Tasks.{IsCommandFor, IsReceive, IsBatchFor, IsOfDatabase, TellsUnopened, EndsAsking, EndsAskingEither}
+use Rattle.mr_tasks.specs.Tasks.{EndsAskingOne, EndsRehearsal, IsAboutRoom, IsAnswered, IsOpened, OnlyReads, TellsTo, file_for}
 use Rattle.mr.specs.CommandLines.{EndsAs, EndsExchangeAt}
 use Rattle.mr_net.specs.Hosts.{IsPeer}
 use Rattle.mr_net.specs.Printed.{StopsWithText, IsStopText, EndsExchange, EndsServing, TellsBadAddress}
@@ -63,7 +64,8 @@ exchange_ends keeper copy trees asked database address held holds status is name
     subst (λ a. EndsAs keeper copy trees a held holds status) (sym is) (exchange_at address held holds status named none)
 
 -- where memory is wanting before anything is done, each command line ends so
-pub fault_ends : {K C T : Type 0} (keeper : Ghosts K) (copy : Ghosts C) (trees : Ghosts T) (asked : Invoked) (held holds : Option Text) (status : ℕ) → TellsFault held holds status → EndsAs keeper copy trees asked held holds status
+pub fault_ends : {K C T : Type 0} (keeper : Ghosts K) (copy : Ghosts C) (trees : Ghosts T) (asked : Invoked) (held holds : Option Text) (status : ℕ)
+    → TellsFault held holds status → EndsAs keeper copy trees asked held holds status
 fault_ends keeper copy trees (Init database server primary) held holds status fault = inr (inr fault)
 fault_ends keeper copy trees (Ask database command) held holds status fault = inl (inl (inr (inr fault)))
 fault_ends keeper copy trees (Export database position batch max_lines) held holds status fault = inl (inl (inr (inr fault)))
@@ -117,12 +119,14 @@ asking_within : {K : Type 0} (keeper : Ghosts K) (IsCommand : Command → Type 0
 asking_within keeper IsCommand TellsReply held holds status low (inl ends) = low ends.3.1 ends.3.4
 asking_within keeper IsCommand TellsReply held holds status low (inr unopened) = unopened_within held holds status unopened
 
-either_within : {K C : Type 0} (keeper : Ghosts K) (copy : Ghosts C) (IsCommand : Command → Type 0) (TellsReply : Reply → Option Text → Option Text → ℕ → Type 0) (held holds : Option Text) (status : ℕ)
+either_within : {K C : Type 0} (keeper : Ghosts K) (copy : Ghosts C) (IsCommand : Command → Type 0)
+    (TellsReply : Reply → Option Text → Option Text → ℕ → Type 0) (held holds : Option Text) (status : ℕ)
     → ((reply : Reply) → TellsReply reply held holds status → status ≤ 3) → EndsAskingEither keeper copy IsCommand TellsReply held holds status → status ≤ 3
 either_within keeper copy IsCommand TellsReply held holds status low (inl ends) = asking_within keeper IsCommand TellsReply held holds status low ends
 either_within keeper copy IsCommand TellsReply held holds status low (inr ends) = asking_within copy (λ c. IsCommand c × OnlyReads c) TellsReply held holds status low ends
 
-one_within : {K C T : Type 0} (keeper : Ghosts K) (copy : Ghosts C) (trees : Ghosts T) (IsCommand : Command → Type 0) (TellsReply : Reply → Option Text → Option Text → ℕ → Type 0) (held holds : Option Text) (status : ℕ)
+one_within : {K C T : Type 0} (keeper : Ghosts K) (copy : Ghosts C) (trees : Ghosts T) (IsCommand : Command → Type 0)
+    (TellsReply : Reply → Option Text → Option Text → ℕ → Type 0) (held holds : Option Text) (status : ℕ)
     → ((reply : Reply) → TellsReply reply held holds status → status ≤ 3) → EndsAskingOne keeper copy trees IsCommand TellsReply held holds status → status ≤ 3
 one_within keeper copy trees IsCommand TellsReply held holds status low (inl ends) = either_within keeper copy IsCommand TellsReply held holds status low ends
 one_within keeper copy trees IsCommand TellsReply held holds status low (inr ends) = asking_within trees (λ c. IsCommand c × IsAboutRoom c) TellsReply held holds status low ends
@@ -158,13 +162,16 @@ exchange_at_within address held holds status ends =
       | inr low ↦ low
     ]
 
-pub ends_within : {K C T : Type 0} (keeper : Ghosts K) (copy : Ghosts C) (trees : Ghosts T) (asked : Invoked) (held holds : Option Text) (status : ℕ) → EndsAs keeper copy trees asked held holds status → status ≤ 3
+pub ends_within : {K C T : Type 0} (keeper : Ghosts K) (copy : Ghosts C) (trees : Ghosts T) (asked : Invoked) (held holds : Option Text) (status : ℕ)
+    → EndsAs keeper copy trees asked held holds status → status ≤ 3
 ends_within keeper copy trees (Init database server primary) held holds status (inl done) = let zero = done.0 in omega (arith, zero)
 ends_within keeper copy trees (Init database server primary) held holds status (inr unopened) = unopened_within held holds status unopened
-ends_within keeper copy trees (Ask database command) held holds status ends = one_within keeper copy trees (λ c. c ≡ command) PrintsReply held holds status (λ reply told. tells_within reply held holds status told) ends
+ends_within keeper copy trees (Ask database command) held holds status ends =
+    one_within keeper copy trees (λ c. c ≡ command) PrintsReply held holds status (λ reply told. tells_within reply held holds status told) ends
 ends_within keeper copy trees (Export database position batch max_lines) held holds status ends =
     one_within keeper copy trees (IsBatchFor max_lines) TellsWritten held holds status (λ reply told. written_within reply held holds status told) ends
-ends_within keeper copy trees (Import database batch) held holds status ends = one_within keeper copy trees IsReceive PrintsReply held holds status (λ reply told. tells_within reply held holds status told) ends
+ends_within keeper copy trees (Import database batch) held holds status ends =
+    one_within keeper copy trees IsReceive PrintsReply held holds status (λ reply told. tells_within reply held holds status told) ends
 ends_within keeper copy trees (Rehearse script) held holds status ends = rehearsal_within held holds status ends
 ends_within keeper copy trees (Serve database port connections) held holds status ends = serving_within port connections held holds status ends
 ends_within keeper copy trees (Exchange database address) held holds status ends = exchange_at_within address held holds status ends

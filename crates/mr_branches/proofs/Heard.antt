@@ -11,18 +11,14 @@ use Rattle.mr_model.proofs.UniqueReplay.{some_inj}
 use Rattle.mr_model.proofs.WorldFacts.{found_put}
 use Rattle.mr_offices.specs.Offices.{Act, Within, Give, IsDone, IsNoReply, IsOfficeStep}
 use Rattle.mr_offices.proofs.OfficeSteps.{giving_is_making}
+use Rattle.mr_model.proofs.WorldKnowledge.{said_inj}
+use Rattle.mr_peer.proofs.AskLemmas.{same_position}
 
 -- ---- what is heard of an act
 
 pub machine_isnt_position : {reply : Reply} → IsOfMachine reply → (p : Position) → reply ≡ PositionIs p → ⊥
 machine_isnt_position no_memory p e = let z : Refused OutOfMemory ≡ PositionIs p = e in cc
 machine_isnt_position no_store p e = let z : Refused Store ≡ PositionIs p = e in cc
-
-said_inj : (x y : Reply) → Said x ≡ Said y → x ≡ y
-said_inj x y e = cc
-
-position_inj : (p q : Position) → PositionIs p ≡ PositionIs q → p ≡ q
-position_inj p q e = cc
 
 -- a position, or that a batch was made, is no lost reply
 position_is_reply : (p : Position) → IsNoReply (Some (Said (PositionIs p))) → ⊥
@@ -45,7 +41,7 @@ pub position_told : (old new : World) (server : ℕ) (r : Replica) (p : Position
 position_told old new server r p e own one =
     let done = heard_done old new (Within (Do server AskPosition)) (Said (PositionIs p)) (position_is_reply p) one in
     let is : record { reply = Said (PositionIs p); world = new } ≡ with_after old (step r AskPosition) = done.1 ∙ ap (λ o. do_at old o AskPosition) e in (
-      position_inj p (position_of r) (said_inj (PositionIs p) (PositionIs (position_of r)) (ap (λ (x : WorldAfter). x.reply) is)),
+      same_position p (position_of r) (said_inj (PositionIs p) (PositionIs (position_of r)) (ap (λ (x : WorldAfter). x.reply) is)),
       ap (λ (x : WorldAfter). replica_of x.world server) is ∙ found_put old.replicas server r r own e,
     )
 

@@ -77,7 +77,8 @@ gave_batch r q text m gave (inl e) is =
 
 -- ---- a pull
 
-module _ {K : Type 0} (k : Ghosts K) (v : Offices K) (w : World) (client server : ℕ) (oc os : Office K) (h : IsHonest w) (st : StandFor (sight_of k) v w) (ec : slice_get v.offices client ≡ Some oc) (es : slice_get v.offices server ≡ Some os) (apart : client ≡ server → ⊥) where
+module _ {K : Type 0} (k : Ghosts K) (v : Offices K) (w : World) (client server : ℕ) (oc os : Office K) (h : IsHonest w) (st : StandFor (sight_of k) v w)
+    (ec : slice_get v.offices client ≡ Some oc) (es : slice_get v.offices server ≡ Some os) (apart : client ≡ server → ⊥) where
   abbrev sight : Sight K
   sight = sight_of k
 
@@ -189,7 +190,8 @@ module _ {K : Type 0} (k : Ghosts K) (v : Offices K) (w : World) (client server 
       )
 
       -- and the client receives a prefix of it
-      module _ (last : K) (bytes : ℕ) (took : Reply) (third : IsServed k asked last (Receive (take bytes (response_of gave).body)) took) (ok : (response_of gave).status ≡ 200) (clean_last : k.is_clean last) where
+      module _ (last : K) (bytes : ℕ) (took : Reply) (third : IsServed k asked last (Receive (take bytes (response_of gave).body)) took)
+          (ok : (response_of gave).status ≡ 200) (clean_last : k.is_clean last) where
         given : (b : Batch) × (gave ≡ BatchIs b)
         given = go call2.answered
           where
@@ -216,7 +218,8 @@ module _ {K : Type 0} (k : Ghosts K) (v : Offices K) (w : World) (client server 
               number = number;
               text = batch_text given.0;
               count = bytes;
-              is_there = ap (λ g. batch_numbered (texts_with v.texts g) number) given.1 ∙ ap (λ n. batch_numbered (v.texts ++ batch_text given.0 ∷ []) n) (add-one (length v.texts)) ∙ get_end v.texts (batch_text given.0);
+              is_there = ap (λ g. batch_numbered (texts_with v.texts g) number) given.1
+                  ∙ ap (λ n. batch_numbered (v.texts ++ batch_text given.0 ∷ []) n) (add-one (length v.texts)) ∙ get_end v.texts (batch_text given.0);
               is_front = ap (λ g. take bytes (response_of g).body) given.1;
             }
 
@@ -288,7 +291,8 @@ module _ {K : Type 0} (k : Ghosts K) (v : Offices K) (w : World) (client server 
 
 -- ---- a push
 
-module _ {K : Type 0} (k : Ghosts K) (v : Offices K) (w : World) (client server : ℕ) (oc os : Office K) (h : IsHonest w) (st : StandFor (sight_of k) v w) (ec : slice_get v.offices client ≡ Some oc) (es : slice_get v.offices server ≡ Some os) (apart : client ≡ server → ⊥) (position : Position) where
+module _ {K : Type 0} (k : Ghosts K) (v : Offices K) (w : World) (client server : ℕ) (oc os : Office K) (h : IsHonest w) (st : StandFor (sight_of k) v w)
+    (ec : slice_get v.offices client ≡ Some oc) (es : slice_get v.offices server ≡ Some os) (apart : client ≡ server → ⊥) (position : Position) where
   abbrev Pushed : K → K → Type 0
   Pushed new_client new_server =
       (done number bytes : ℕ) × (heard : List (Option StepReply))
@@ -353,7 +357,8 @@ module _ {K : Type 0} (k : Ghosts K) (v : Offices K) (w : World) (client server 
             number = batch_number;
             text = batch_text b;
             count = batch_size;
-            is_there = ap (λ g. batch_numbered (texts_with v.texts g) batch_number) is ∙ ap (λ n. batch_numbered (v.texts ++ batch_text b ∷ []) n) (add-one (length v.texts)) ∙ get_end v.texts (batch_text b);
+            is_there = ap (λ g. batch_numbered (texts_with v.texts g) batch_number) is
+                ∙ ap (λ n. batch_numbered (v.texts ++ batch_text b ∷ []) n) (add-one (length v.texts)) ∙ get_end v.texts (batch_text b);
             is_front = sym (take_all batch_size (batch_text b) (le_refl batch_size));
           }
 

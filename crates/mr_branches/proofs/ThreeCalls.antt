@@ -37,14 +37,16 @@ behind xs ys = let a = length-append xs ys in omega (arith, a)
 -- the body of a response is no longer than its text
 body_short : (r : Response) (text : Text) → text ≡ response_text r → length text < 2 ^ 64 → length r.body < 2 ^ 64
 body_short r text is low =
-    let head : Text = flat_map head_line (words (codes "HTTP/1.1" ∷ decimal r.status ∷ reason r.status ∷ []) ∷ (codes "Content-Type: " ++ kind r.is_json) ∷ (map (λ m. codes "Allow: " ++ m) r.allowed ++ (codes "Content-Length: " ++ decimal (length r.body)) ∷ codes "Connection: close" ∷ [] ∷ [])) in
+    let head : Text = flat_map head_line (words (codes "HTTP/1.1" ∷ decimal r.status ∷ reason r.status ∷ []) ∷ (codes "Content-Type: " ++ kind r.is_json) ∷
+    (map (λ m. codes "Allow: " ++ m) r.allowed ++ (codes "Content-Length: " ++ decimal (length r.body)) ∷ codes "Connection: close" ∷ [] ∷ [])) in
     let a : length r.body ≤ length (response_text r) = behind head r.body in
     let b = ap length is in omega (arith, a, b, low)
 
 -- ---- a pull
 
 -- a client told its position, a prefix of the request with it was read, and the server's response lies here
-module _ {C S : Type 0} (k : Ghosts C) (l : Ghosts S) (say : Reply) (p : Position) (say_is : say ≡ PositionIs p) (asked client : C) (old new : S) (host : Text) (sent told : ℕ) (host_ok : is_host host ≡ true) (low : length (position_text p) < 2 ^ 64) (response : Text) (short : length response < 2 ^ 64) where
+module _ {C S : Type 0} (k : Ghosts C) (l : Ghosts S) (say : Reply) (p : Position) (say_is : say ≡ PositionIs p) (asked client : C) (old new : S) (host : Text)
+    (sent told : ℕ) (host_ok : is_host host ≡ true) (low : length (position_text p) < 2 ^ 64) (response : Text) (short : length response < 2 ^ 64) where
   abbrev line : Text
   line = take sent (pull_request host (position_text p))
 
@@ -97,7 +99,8 @@ record Sent {K : Type 0} (k : Ghosts K) (old asked : K) (host request : Text) : 
   is : request ≡ pull_request host (position_text position)
   low : length (position_text position) < 2 ^ 64
 
-sent_of : {K : Type 0} (k : Ghosts K) (old asked : K) (host none request : Text) → length request < 2 ^ 64 → SendsPosition k old asked host (Some none) (Some request) (Ok tt) → none ≡ [] → Sent k old asked host request
+sent_of : {K : Type 0} (k : Ghosts K) (old asked : K) (host none request : Text) → length request < 2 ^ 64
+    → SendsPosition k old asked host (Some none) (Some request) (Ok tt) → none ≡ [] → Sent k old asked host request
 sent_of k old asked host none request low (say, first, inr (nothing, keeps)) empty = absurd nothing
 sent_of k old asked host none request low (say, first, inl (p, told, appends)) empty =
     let whole : request ≡ pull_request host (position_text p) = appends ∙ ap (λ t. t ++ pull_request host (position_text p)) empty in
@@ -120,7 +123,8 @@ between_err k l old_client asked old new host none request sent_line held respon
           (subst (λ x. AsksOnce l old new (Some x) (Writes (Some held) (Some response)) (Err e)) at once)) refl,
     )
 
-pub between_ok : {C S : Type 0} (k : Ghosts C) (l : Ghosts S) (old_client asked client : C) (old new : S) (host none request sent_line held response back : Text) (sent told status : ℕ) (result : Result (ℕ × ℕ × Ending) WebFault)
+pub between_ok : {C S : Type 0} (k : Ghosts C) (l : Ghosts S) (old_client asked client : C) (old new : S)
+    (host none request sent_line held response back : Text) (sent told status : ℕ) (result : Result (ℕ × ℕ × Ending) WebFault)
     → is_host host ≡ true → length request < 2 ^ 64 → length response < 2 ^ 64
     → SendsPosition k old_client asked host (Some none) (Some request) (Ok tt) → none ≡ [] → sent_line ≡ take sent request
     → held ≡ [] → AsksOnce l old new (Some sent_line) (Writes (Some held) (Some response)) (Ok status) → back ≡ take told response
@@ -149,7 +153,8 @@ push_served : {K X E : Type 0} (k : Ghosts K) (old new : K) (host batch sent_lin
     → is_host host ≡ true → length batch < 2 ^ 64 → sent_line ≡ take sent (push_request host batch) → AsksOnce k old new (Some sent_line) G result
     → (new ≡ old) ⊎ ((took : Reply) × IsServed k old new (Receive batch) took)
 push_served k old new host batch sent_line sent G result host_ok low at (inl (same, given)) = inl same
-push_served k old new host batch sent_line sent G result host_ok low at (inr (c, took, served, (input, is, asks), given)) = go (push_asked host batch sent (Runs c) host_ok low (subst (λ i. Asks i (Runs c)) (is ∙ at) asks))
+push_served k old new host batch sent_line sent G result host_ok low at (inr (c, took, served, (input, is, asks), given)) =
+    go (push_asked host batch sent (Runs c) host_ok low (subst (λ i. Asks i (Runs c)) (is ∙ at) asks))
   where
     go : (Runs c ≡ Runs (Receive batch)) ⊎ ((f : Response) × (Runs c ≡ Faulty f) × IsCutOrLong f) → (new ≡ old) ⊎ ((took : Reply) × IsServed k old new (Receive batch) took)
     go (inl e) = inr (took, subst (λ d. IsServed k old new d took) (runs_inj c (Receive batch) e) served)
@@ -166,7 +171,8 @@ pub pushed : {C S X E : Type 0} (k : Ghosts C) (l : Ghosts S) (position : Positi
     → is_host host ≡ true → length request < 2 ^ 64 → none ≡ [] → sent_line ≡ take sent request
     → SendsBatch k old_client client position host (Some none) (Some request) (Ok ending)
     → AsksOnce l old new (Some sent_line) G result → PushesBetween k l position old_client client old new
-pushed k l position old_client client old new host none request sent_line sent ending G result host_ok low empty cut (inl (fails, same, keeps)) once = absurd (let z : ◌≡◌ {A = Result Ending WebFault} (Ok ending) (Err Memory) = fails in cc)
+pushed k l position old_client client old new host none request sent_line sent ending G result host_ok low empty cut (inl (fails, same, keeps)) once =
+    absurd (let z : ◌≡◌ {A = Result Ending WebFault} (Ok ending) (Err Memory) = fails in cc)
 pushed k l position old_client client old new host none request sent_line sent ending G result host_ok low empty cut (inr (gave, served, inr (nothing, keeps))) once = absurd nothing
 pushed k l position old_client client old new host none request sent_line sent ending G result host_ok low empty cut (inr (gave, served, inl (b, is, appends, ends))) once =
     let whole : request ≡ push_request host (batch_text b) = appends ∙ ap (λ t. t ++ push_request host (batch_text b)) empty in

@@ -113,5 +113,6 @@ calls_happen sight v place o (c ∷ cs) new at asked (m, call, rest) =
     let happened = calls_happen sight later place one cs new (get_set v.offices place one o at) (all_asked_after v.texts c.0 c.1 cs asked.1) rest in
     called place o m c.0 c.1 at asked.0 call
     (subst (λ acts. AreHappenings sight later acts (heard_of later.texts cs) (offices_behind v place o (c ∷ cs) new)) (acts_same v.texts c.0 c.1 o.server cs asked.1)
-    (subst (λ x. AreHappenings sight later (acts_of later.texts o.server cs (all_asked_after v.texts c.0 c.1 cs asked.1)) (heard_of later.texts cs) (record { offices = x; texts = texts_behind later.texts cs }))
+    (subst (λ x. AreHappenings sight later (acts_of later.texts o.server cs (all_asked_after v.texts c.0 c.1 cs asked.1))
+    (heard_of later.texts cs) (record { offices = x; texts = texts_behind later.texts cs }))
     (set_twice v.offices place one (record { server = o.server; keeper = new; pending = doubt_after o.pending (c ∷ cs) })) happened))

@@ -1,5 +1,6 @@
 -- The place of a key, by its index.
-use Rattle.std.proofs.Common.{◌≡◌, inl, inr, ℕ, ℤ, ◌-◌, true, false, not, Bool, ◌||◌, List, [], ◌∷◌, ◌++◌, length, map, filter, refl, sym, ap, subst, ◌∙◌, Ordering, Less, Equal, Greater, is_lt, true≢false, arith}
+use Rattle.std.proofs.Common.{◌≡◌, inl, inr, ℕ, ℤ, ◌-◌, true, false, not, Bool, ◌||◌, List, [], ◌∷◌, ◌++◌, length, map}
+use Rattle.std.proofs.Common.{filter, refl, sym, ap, subst, ◌∙◌, Ordering, Less, Equal, Greater, is_lt, true≢false, arith}
 use Rattle.std.specs.Cmp.{Equal-is}
 use Rattle.std.specs.Ordering.{is_gt}
 use Rattle.std.proofs.lemmas.Cmp.{tied_itself}
@@ -29,7 +30,7 @@ use Rattle.mr_rows.specs.Form.{Form}
 use Rattle.mr_rows.specs.Database.{IsRowOf, IsHeld, in_order}
 use Rattle.mr_rows.proofs.FormLemmas.{has_moved}
 use Rattle.mr_rows.proofs.SortedByKey.{ordered_has}
-use Rattle.mr_changes.specs.Found.{id_cells, HasKey, IsAlone, IsPlace, IsPlaceFor, LacksKey}
+use Rattle.mr_changes.specs.Found.{id_key, HasKey, IsAlone, IsPlace, IsPlaceFor, LacksKey}
 use Rattle.mr_changes.specs.KeyLaws.{id_alike, id_same}
 use Rattle.mr_changes.proofs.PutLemmas.{one_alike, has_in}
 
@@ -55,11 +56,13 @@ module _ (cs : List ℕ) (rows entries : List Row) (key : Row) (up : IsTable row
       let has : HasKey cs key z = subst (λ x. prefix_cmp plain x key ≡ Equal) from.2 same in
       let own : rowid z ≡ Int id = sym (ap (λ x. column x (length x - 1)) from.2 ∙ last_of (map (column z) cs) (rowid z)) ∙ last in (
         λ tie. let one : r ≡ z = tied_same rows r z up here from.1 (subst (λ v. value_cmp (rowid r) v ≡ Equal) (sym own) tie) in subst (HasKey cs key) (sym one) has,
-        λ alike. let one : r ≡ z = alone r z here from.1 alike has in subst (λ x. value_cmp (rowid x) (Int id) ≡ Equal) (sym one) (subst (λ v. value_cmp v (Int id) ≡ Equal) (sym own) (tied_itself value_cmp_total (Int id))),
+        λ alike. let one : r ≡ z = alone r z here from.1 alike has in
+            subst (λ x. value_cmp (rowid x) (Int id) ≡ Equal) (sym one) (subst (λ v. value_cmp v (Int id) ≡ Equal) (sym own) (tied_itself value_cmp_total (Int id))),
       )
 
 -- no row has the key where the first entry behind it doesn't
-pub missing : (cs : List ℕ) (rows entries : List Row) (key : Row) → IsIndexOf cs rows entries → IsIndex plain entries → LacksKey key (from_key plain key entries) → (r : Row) → Has rows r → HasKey cs key r → ⊥
+pub missing : (cs : List ℕ) (rows entries : List Row) (key : Row) → IsIndexOf cs rows entries → IsIndex plain entries
+    → LacksKey key (from_key plain key entries) → (r : Row) → Has rows r → HasKey cs key r → ⊥
 missing cs rows entries key indexed up lacks r here equal =
     let e = entry_of cs r in
     let is = from_key-filter plain key entries (sorted_index plain entries up) in
@@ -86,7 +89,8 @@ pub fresh : {HasIt : Row → Type 0} (rows : List Row) (id : ℤ) → ((r : Row)
 fresh rows id above lacks r here = (λ tie. absurd (let e : Less ≡ Equal = sym (above r here) ∙ tie in cc), λ has. absurd (lacks r here has))
 
 -- the one behind the last is above all
-pub behind_last : (front : List Row) (last : Row) (m : ℤ) (n : ℤ) → IsTable (front ++ last ∷ []) → rowid last ≡ Int m → value_cmp (Int m) (Int n) ≡ Less → (r : Row) → Has (front ++ last ∷ []) r → value_cmp (rowid r) (Int n) ≡ Less
+pub behind_last : (front : List Row) (last : Row) (m : ℤ) (n : ℤ) → IsTable (front ++ last ∷ []) → rowid last ≡ Int m
+    → value_cmp (Int m) (Int n) ≡ Less → (r : Row) → Has (front ++ last ∷ []) r → value_cmp (rowid r) (Int n) ≡ Less
 behind_last [] last m n up is more r (inl e) = subst (λ v. value_cmp v (Int n) ≡ Less) (sym is ∙ ap rowid (sym e)) more
 behind_last [] last m n up is more r (inr h) = absurd h
 behind_last (x ∷ front) last m n up is more r (inl e) =
@@ -104,7 +108,8 @@ none_has {P} rows r none here = absurd (subst (λ (xs : List Row). Has xs r) non
 -- ---- a table's key
 
 module _ {R K : Type 0} (f : Form R K) (key_of : R → Row) (key_at : List ℕ) (keyed : (r : Row) → IsRowOf f r → map (column r) key_at ≡ key_of (f.row_in r))
-    (alike : (a b : R) (rest : Row) → prefix_cmp plain (key_of a ++ rest) (key_of b) ≡ Equal → f.key a ≡ f.key b) (same : (a b : R) (rest : Row) → f.key a ≡ f.key b → prefix_cmp plain (key_of a ++ rest) (key_of b) ≡ Equal)
+    (alike : (a b : R) (rest : Row) → prefix_cmp plain (key_of a ++ rest) (key_of b) ≡ Equal → f.key a ≡ f.key b)
+    (same : (a b : R) (rest : Row) → f.key a ≡ f.key b → prefix_cmp plain (key_of a ++ rest) (key_of b) ≡ Equal)
     (rows : List Row) (held : IsHeld f rows) (x : R) where
   row_of : (r : Row) → Has rows r → IsRowOf f r
   row_of r here = all_has (IsRowOf f) rows r held.whole here
@@ -147,31 +152,33 @@ filter_all p [] all = refl
 filter_all p (x ∷ xs) all = rw (all x (inl refl)) (ap (λ ys. x ∷ ys) (filter_all p xs (λ y h. all y (inr h))))
 
 module _ {R K : Type 0} (f : Form R K) (key_of : R → Row) (key_at : List ℕ) (keyed : (r : Row) → IsRowOf f r → map (column r) key_at ≡ key_of (f.row_in r))
-    (alike : (a b : R) (rest : Row) → prefix_cmp plain (key_of a ++ rest) (key_of b) ≡ Equal → f.key a ≡ f.key b) (id_of : R → Id) (by_id : (x : R) → key_of x ≡ id_cells (id_of x)) (rows : List Row) (held : IsHeld f rows) (id : Id) where
-  id_columns : (r : Row) → Has rows r → map (column r) key_at ≡ id_cells (id_of (f.row_in r))
+    (alike : (a b : R) (rest : Row) → prefix_cmp plain (key_of a ++ rest) (key_of b) ≡ Equal → f.key a ≡ f.key b)
+    (id_of : R → Id) (by_id : (x : R) → key_of x ≡ id_key (id_of x)) (rows : List Row) (held : IsHeld f rows) (id : Id) where
+  id_columns : (r : Row) → Has rows r → map (column r) key_at ≡ id_key (id_of (f.row_in r))
   id_columns r here = keyed r (all_has (IsRowOf f) rows r held.whole here) ∙ by_id (f.row_in r)
 
-  to_id : (r : Row) → Has rows r → HasKey key_at (id_cells id) r → id_of (f.row_in r) ≡ id
-  to_id r here has = id_alike (id_of (f.row_in r)) id (rowid r ∷ []) (subst (λ k. prefix_cmp plain (k ++ rowid r ∷ []) (id_cells id) ≡ Equal) (id_columns r here) has)
+  to_id : (r : Row) → Has rows r → HasKey key_at (id_key id) r → id_of (f.row_in r) ≡ id
+  to_id r here has = id_alike (id_of (f.row_in r)) id (rowid r ∷ []) (subst (λ k. prefix_cmp plain (k ++ rowid r ∷ []) (id_key id) ≡ Equal) (id_columns r here) has)
 
-  from_id : (r : Row) → Has rows r → id_of (f.row_in r) ≡ id → HasKey key_at (id_cells id) r
-  from_id r here is = subst (λ k. prefix_cmp plain (k ++ rowid r ∷ []) (id_cells id) ≡ Equal) (sym (id_columns r here ∙ ap id_cells is)) (id_same id (rowid r ∷ []))
+  from_id : (r : Row) → Has rows r → id_of (f.row_in r) ≡ id → HasKey key_at (id_key id) r
+  from_id r here is = subst (λ k. prefix_cmp plain (k ++ rowid r ∷ []) (id_key id) ≡ Equal) (sym (id_columns r here ∙ ap id_key is)) (id_same id (rowid r ∷ []))
 
-  pub one_id : IsAlone (HasKey key_at (id_cells id)) rows
+  pub one_id : IsAlone (HasKey key_at (id_key id)) rows
   one_id r s at_r at_s p q =
-      let other : id_cells id ≡ key_of (f.row_in s) = sym (by_id (f.row_in s) ∙ ap id_cells (to_id s at_s q)) in
+      let other : id_key id ≡ key_of (f.row_in s) = sym (by_id (f.row_in s) ∙ ap id_key (to_id s at_s q)) in
       let own = keyed r (all_has (IsRowOf f) rows r held.whole at_r) in
       let tie = subst (λ k. prefix_cmp plain (k ++ rowid r ∷ []) (key_of (f.row_in s)) ≡ Equal) own (subst (λ k. prefix_cmp plain (entry_of key_at r) k ≡ Equal) other p) in
       one_alike (λ r. f.key (f.row_in r)) rows held.apart r s at_r at_s (alike (f.row_in r) (f.row_in s) (rowid r ∷ []) tie)
 
   -- the row at the place is the one with the id
-  pub gone_at : (at : ℤ) → IsPlace (HasKey key_at (id_cells id)) rows at → (r : Row) → Has rows r → has_rowid at r ≡ is_among (id_of (f.row_in r)) (id ∷ [])
+  pub gone_at : (at : ℤ) → IsPlace (HasKey key_at (id_key id)) rows at → (r : Row) → Has rows r → has_rowid at r ≡ is_among (id_of (f.row_in r)) (id ∷ [])
   gone_at at place r here =
       let tied = Equal-is (value_cmp (rowid r) (Int at)) in
-      same_tests (has_rowid at r) (is_among (id_of (f.row_in r)) (id ∷ [])) (λ e. among_one _ id (to_id r here ((place r here).0 (tied.0 e)))) (λ e. tied.1 ((place r here).1 (from_id r here (one_among _ id e))))
+      same_tests (has_rowid at r) (is_among (id_of (f.row_in r)) (id ∷ [])) (λ e. among_one _ id (to_id r here ((place r here).0 (tied.0 e))))
+      (λ e. tied.1 ((place r here).1 (from_id r here (one_among _ id e))))
 
   -- no row has the id, so none is taken
-  pub none_gone : ((r : Row) → Has rows r → HasKey key_at (id_cells id) r → ⊥) → (o : IsOrder K f.before) → rows_without id_of (id ∷ []) (in_order f rows) ≡ in_order f rows
+  pub none_gone : ((r : Row) → Has rows r → HasKey key_at (id_key id) r → ⊥) → (o : IsOrder K f.before) → rows_without id_of (id ∷ []) (in_order f rows) ≡ in_order f rows
   none_gone lacks o = filter_all (λ row. not (is_among (id_of row) (id ∷ []))) (in_order f rows) stays
     where
       stays : (x : R) → In x (in_order f rows) → not (is_among (id_of x) (id ∷ [])) ≡ true
@@ -185,7 +192,8 @@ module _ {R K : Type 0} (f : Form R K) (key_of : R → Row) (key_at : List ℕ) 
           go true e = let here = has_in rows found.0 found.1 in absurd (lacks found.0 here (from_id found.0 here (ap id_of (sym found.2) ∙ one_among _ id e)))
 
 -- `meta` has one row, so the last is it
-pub last_place : {R K : Type 0} (f : Form R K) (k : K) (rows front : List Row) (last : Row) (id : ℤ) → IsHeld f rows → ((r : Row) → f.key (f.row_in r) ≡ k) → rows ≡ front ++ last ∷ [] → rowid last ≡ Int id → IsPlaceFor f k rows id
+pub last_place : {R K : Type 0} (f : Form R K) (k : K) (rows front : List Row) (last : Row) (id : ℤ) → IsHeld f rows
+    → ((r : Row) → f.key (f.row_in r) ≡ k) → rows ≡ front ++ last ∷ [] → rowid last ≡ Int id → IsPlaceFor f k rows id
 last_place f k rows front last id held one is own r here = (
   λ tie. one r,
   λ same. subst (λ x. value_cmp (rowid x) (Int id) ≡ Equal) (sym alone) (subst (λ v. value_cmp v (Int id) ≡ Equal) (sym own) (tied_itself value_cmp_total (Int id))),

@@ -62,12 +62,15 @@ all_below (suc n) p = p n && all_below n p
 
 below : (n : ℕ) (p : ℕ → Bool) → all_below n p ≡ true → (t : ℕ) → t < n → p t ≡ true
 below zero p all t low = absurd (omega arith)
-below (suc n) p all t low = let both = and_parts (p n) (all_below n p) all in ⊎_elim (λ less. below n p both.1 t less) (λ high. let same : n ≡ t = omega (arith, high, low) in subst (λ k. p k ≡ true) same both.0) (cases_lt t n)
+below (suc n) p all t low =
+    let both = and_parts (p n) (all_below n p) all in
+    ⊎_elim (λ less. below n p both.1 t less) (λ high. let same : n ≡ t = omega (arith, high, low) in subst (λ k. p k ≡ true) same both.0) (cases_lt t n)
 
 abbrev IsOurTable : (ℕ → Shape) → ℕ → Type 0
 IsOurTable shapes t = (shapes t ≡ shape.Table) × (shapes (t + 1) ≡ shape.Index plain)
 
-pub trees_of : (shapes : ℕ → Shape) (count : ℕ) → count ≤ 20 → ((t : ℕ) → count ≤ t → t < 2 ^ 32 → ¬ IsIndexShape (shapes t)) → IsOurTable shapes 0 → IsOurTable shapes 2 → IsOurTable shapes 4 → IsOurTable shapes 6 → IsOurTable shapes 8 → IsOurTable shapes 10
+pub trees_of : (shapes : ℕ → Shape) (count : ℕ) → count ≤ 20 → ((t : ℕ) → count ≤ t → t < 2 ^ 32 → ¬ IsIndexShape (shapes t))
+    → IsOurTable shapes 0 → IsOurTable shapes 2 → IsOurTable shapes 4 → IsOurTable shapes 6 → IsOurTable shapes 8 → IsOurTable shapes 10
     → IsOurTable shapes 12 → IsOurTable shapes 14 → IsOurTable shapes 16 → IsOurTable shapes 18 → HasTrees shapes
 trees_of shapes count few past a b c d e f g h i j = record {
   table = λ t is. (each t is).0;

@@ -98,10 +98,12 @@ module _ {R K : Type 0} (f : Form R K) (o : IsOrder K f.before) where
     }
 
     pub put_is : in_order f (put_row new rows) ≡ put f.before f.key x (in_order f rows)
-    put_is = sym (puts_make f.before f.key o (x ∷ []) (in_order f rows) (in_order f (put_row new rows)) (ordered_in_order f.before f.key o (map f.row_in rows)) (ordered_in_order f.before f.key o (map f.row_in (put_row new rows))) news olds others)
+    put_is = sym (puts_make f.before f.key o (x ∷ []) (in_order f rows) (in_order f (put_row new rows))
+        (ordered_in_order f.before f.key o (map f.row_in rows)) (ordered_in_order f.before f.key o (map f.row_in (put_row new rows))) news olds others)
       where
         there : (r : Row) → Has (put_row new rows) r → In (f.row_in r) (in_order f (put_row new rows))
-        there r h = has_ordered f.before f.key o (map f.row_in (put_row new rows)) (keys_apart f (put_row new rows) put_held) (f.row_in r) (has_map f.row_in r (put_row new rows) (in_has (put_row new rows) r h))
+        there r h = has_ordered f.before f.key o (map f.row_in (put_row new rows)) (keys_apart f (put_row new rows) put_held)
+            (f.row_in r) (has_map f.row_in r (put_row new rows) (in_has (put_row new rows) r h))
 
         news : (row : R) → In row (x ∷ []) → In row (in_order f (put_row new rows))
         news row (inl e) = subst (λ y. In y (in_order f (put_row new rows))) (back ∙ sym e) (there new (has_put new rows))
@@ -123,7 +125,8 @@ module _ {R K : Type 0} (f : Form R K) (o : IsOrder K f.before) where
           where
             go : (r : Row) → row ≡ f.row_in r → (r ≡ new) ⊎ Has rows r → In row (x ∷ []) ⊎ In row (in_order f rows)
             go r is (inl e) = inl (inl (is ∙ ap f.row_in e ∙ back))
-            go r is (inr k) = inr (subst (λ y. In y (in_order f rows)) (sym is) (has_ordered f.before f.key o (map f.row_in rows) (keys_apart f rows held) (f.row_in r) (has_map f.row_in r rows (in_has rows r k))))
+            go r is (inr k) =
+                inr (subst (λ y. In y (in_order f rows)) (sym is) (has_ordered f.before f.key o (map f.row_in rows) (keys_apart f rows held) (f.row_in r) (has_map f.row_in r rows (in_has rows r k))))
 
   -- ---- a row taken away
 
@@ -141,7 +144,8 @@ module _ {R K : Type 0} (f : Form R K) (o : IsOrder K f.before) where
       (elim (plain (f.row_in r)) as (λ b. map f.row_in (cond b (r ∷ filter test rows) (filter test rows)) ≡ cond b (f.row_in r ∷ filter plain (map f.row_in rows)) (filter plain (map f.row_in rows)))
       [ true ↦ ap (λ xs. f.row_in r ∷ xs) (kept_in test plain rows (λ s h. same s (inr h))) | false ↦ kept_in test plain rows (λ s h. same s (inr h)) ])
 
-  pub taken_is : (id : ℤ) (gone : R → Bool) (rows : List Row) → IsHeld f rows → ((r : Row) → Has rows r → has_rowid id r ≡ gone (f.row_in r)) → in_order f (without_rowid id rows) ≡ filter (λ x. not (gone x)) (in_order f rows)
+  pub taken_is : (id : ℤ) (gone : R → Bool) (rows : List Row) → IsHeld f rows → ((r : Row) → Has rows r → has_rowid id r ≡ gone (f.row_in r))
+      → in_order f (without_rowid id rows) ≡ filter (λ x. not (gone x)) (in_order f rows)
   taken_is id gone rows held same =
       ap (λ xs. put_all f.before f.key xs []) (kept_in (λ r. not (has_rowid id r)) (λ x. not (gone x)) rows (λ r h. ap not (same r h)))
       ∙ ordered-filter f.before f.key o (λ x. not (gone x)) (map f.row_in rows) (keys_apart f rows held)

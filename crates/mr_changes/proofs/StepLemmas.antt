@@ -1,5 +1,6 @@
 -- What other rows of one table make of all tables, and steps one after another.
-use Rattle.std.proofs.Common.{◌≡◌, ℕ, ℤ, ◌+◌, ◌<◌, ◌≤◌, length, drop, get_or, Result, Ok, Err, OnOk, Bool, true, false, not, filter, cond, List, [], ◌∷◌, ◌==◌, IsTrue, eqb-true, eq-eqb, true≢false, refl, sym, ap, subst, ◌∙◌, arith}
+use Rattle.std.proofs.Common.{◌≡◌, ℕ, ℤ, ◌+◌, ◌<◌, ◌≤◌, length, drop, get_or, Result, Ok, Err, OnOk, Bool, true, false, not, filter}
+use Rattle.std.proofs.Common.{cond, List, [], ◌∷◌, ◌==◌, IsTrue, eqb-true, eq-eqb, true≢false, refl, sym, ap, subst, ◌∙◌, arith}
 use Rattle.std.specs.Prelude.{OnErr}
 use Rattle.std.proofs.lemmas.List.{drop_more, drop_all}
 use Rattle.std.proofs.lemmas.Result.{on_ok_weaker}
@@ -18,13 +19,13 @@ use Rattle.mr_tables.specs.Change.{put, rows_without}
 use Rattle.mr_tables.specs.TableOrders.{IsOrder}
 use Rattle.mr_rows.specs.Form.{Form, meta_form, room_form, vector_form, log_form, booking_form, error_form, cancelled_form, cancel_form}
 use Rattle.mr_rows.specs.Database.{IsHeld, AreHeld, first_meta, in_order, tables_in}
-use Rattle.mr_rows.specs.TableSteps.{IsTableOf, overlaid, rows_put, rows_taken}
+use Rattle.mr_rows.specs.TableSteps.{IsTableOf, trees_with, rows_put, rows_taken}
 use Rattle.mr_rows.specs.ChangeParts.{put_meta}
 use Rattle.mr_rows.proofs.StepLemmas.{first_put}
 use Rattle.mr_changes.specs.Indexed.{is_ours, AreIndexed}
 use Rattle.mr_changes.specs.Found.{IsPlaceFor}
-use Rattle.mr_changes.specs.Fit.{IsFit, IsKept}
-use Rattle.mr_changes.specs.Steps.{KeepsLast, IsStep, Makes, Settles, Stays}
+use Rattle.mr_changes.specs.Fit.{IsFit, IsViewKept}
+use Rattle.mr_changes.specs.Steps.{KeepsLast, IsStoreStep, Makes, SettlesOn, StaysAsKept}
 use Rattle.mr_changes.proofs.PutLemmas.{put_held, put_is, taken_held, taken_is}
 
 -- ---- all tables, by their trees
@@ -71,7 +72,7 @@ held_same a b same held = record {
 -- ---- one table gets other rows
 
 -- our trees, where one has other rows
-overlays : (catalog : List Index) (old new : View) (tree : ℕ) (rows : List Row) → IsFit old → SetsTable catalog old new tree rows → SameTrees new.trees (overlaid old.trees tree rows)
+overlays : (catalog : List Index) (old new : View) (tree : ℕ) (rows : List Row) → IsFit old → SetsTable catalog old new tree rows → SameTrees new.trees (trees_with old.trees tree rows)
 overlays catalog old new tree rows fit sets t ours = go (t == tree) refl
   where
     go : (b : Bool) → (t == tree) ≡ b → new.trees t ≡ cond b rows (old.trees t)
@@ -79,7 +80,8 @@ overlays catalog old new tree rows fit sets t ours = go (t == tree) refl
     go false e = sets.others t (λ same. let own : (t == tree) ≡ true = eq-eqb t tree same in absurd (let never = sym own ∙ e in cc)) (fit.trees.table t ours)
 
 -- of these trees the tables are held
-fits : (catalog : List Index) (old new : View) (tree : ℕ) (rows : List Row) (seen : Trees) → ((db : Trees) → IsIndexed catalog db → AreIndexed db) → IsFit old → SetsTable catalog old new tree rows → SameTrees new.trees seen → AreHeld seen → IsFit new
+fits : (catalog : List Index) (old new : View) (tree : ℕ) (rows : List Row) (seen : Trees) → ((db : Trees) → IsIndexed catalog db → AreIndexed db)
+    → IsFit old → SetsTable catalog old new tree rows → SameTrees new.trees seen → AreHeld seen → IsFit new
 fits catalog old new tree rows seen listed fit sets same held = record {
   sound = ap (λ (v : View). v.is_broken) sets.rest ∙ sets.sound;
   trees = let shape : new.shape ≡ old.shape = ap (λ (v : View). v.shape) sets.rest in rw shape fit.trees;
@@ -88,7 +90,8 @@ fits catalog old new tree rows seen listed fit sets same held = record {
 }
 
 -- a row put at its place, and one taken away
-module _ {R K : Type 0} (f : Form R K) (o : IsOrder K f.before) (rows_of : Tables → List R) (with_rows : List R → Tables → Tables) (is : IsTableOf AreHeld tables_in f rows_of with_rows) (catalog : List Index)
+module _ {R K : Type 0} (f : Form R K) (o : IsOrder K f.before) (rows_of : Tables → List R)
+    (with_rows : List R → Tables → Tables) (is : IsTableOf AreHeld tables_in f rows_of with_rows) (catalog : List Index)
     (listed : (db : Trees) → IsIndexed catalog db → AreIndexed db) (old new : View) (tree : ℕ) (id : ℤ) (same : tree ≡ f.table.tree) (fit : IsFit old) where
   abbrev stored : List Row
   stored = old.trees f.table.tree
@@ -97,8 +100,8 @@ module _ {R K : Type 0} (f : Form R K) (o : IsOrder K f.before) (rows_of : Table
   makes rows xs sets holds are =
       let over = overlays catalog old new f.table.tree rows fit sets in
       record {
-        fit = fits catalog old new f.table.tree rows (overlaid old.trees f.table.tree rows) listed fit sets over (is.held old.trees rows fit.held holds);
-        tables_are = tables_same new.trees (overlaid old.trees f.table.tree rows) over ∙ is.made old.trees rows ∙ ap (λ ys. with_rows ys (tables_in old.trees)) are;
+        fit = fits catalog old new f.table.tree rows (trees_with old.trees f.table.tree rows) listed fit sets over (is.held old.trees rows fit.held holds);
+        tables_are = tables_same new.trees (trees_with old.trees f.table.tree rows) over ∙ is.made old.trees rows ∙ ap (λ ys. with_rows ys (tables_in old.trees)) are;
         only = sets.rest;
       }
 
@@ -119,7 +122,8 @@ module _ {R K : Type 0} (f : Form R K) (o : IsOrder K f.before) (rows_of : Table
       (makes _ _ here (taken_held f o (λ r. not (has_rowid id r)) stored was) (taken_is f o id gone stored was alike))
 
 -- the row of `meta`, which is the only one
-pub puts_meta : (catalog : List Index) → ((db : Trees) → IsIndexed catalog db → AreIndexed db) → (o : IsOrder ℕ meta_form.before) (old new : View) (id : ℤ) (x : MetaRow) → IsFit old → IsPlaceFor meta_form 1 (old.trees 0) id
+pub puts_meta : (catalog : List Index) → ((db : Trees) → IsIndexed catalog db → AreIndexed db)
+    → (o : IsOrder ℕ meta_form.before) (old new : View) (id : ℤ) (x : MetaRow) → IsFit old → IsPlaceFor meta_form 1 (old.trees 0) id
     → SetsTable catalog old new 0 (put_row (Int id ∷ meta_form.cells x) (old.trees 0)) → Makes old new (put_meta x (tables_in old.trees))
 unfolding tables_in
 puts_meta catalog listed o old new id x fit place sets =
@@ -129,8 +133,19 @@ puts_meta catalog listed o old new id x fit place sets =
     let held = put_held meta_form o x id (old.trees 0) refl was.meta place in
     let first : first_meta (in_order meta_form rows) ≡ x = ap first_meta (put_is meta_form o x id (old.trees 0) refl was.meta place) ∙ first_put x _ in
     record {
-      fit = fits catalog old new 0 rows (overlaid old.trees 0 rows) listed fit sets over (record { meta = held; room = was.room; vector = was.vector; log = was.log; booking = was.booking; errorlog = was.errorlog; cancelled = was.cancelled; cancels = was.cancels; no_write_log = was.no_write_log; no_undo = was.no_undo });
-      tables_are = tables_same new.trees (overlaid old.trees 0 rows) over ∙ ap (λ m. put_meta m (tables_in old.trees)) first;
+      fit = fits catalog old new 0 rows (trees_with old.trees 0 rows) listed fit sets over (record {
+        meta = held;
+        room = was.room;
+        vector = was.vector;
+        log = was.log;
+        booking = was.booking;
+        errorlog = was.errorlog;
+        cancelled = was.cancelled;
+        cancels = was.cancels;
+        no_write_log = was.no_write_log;
+        no_undo = was.no_undo;
+      });
+      tables_are = tables_same new.trees (trees_with old.trees 0 rows) over ∙ ap (λ m. put_meta m (tables_in old.trees)) first;
       only = sets.rest;
     }
 
@@ -202,17 +217,17 @@ keeps_then a b c p q = record {
 }
 
 module _ {S : Type 0} (g : Ghosts S) where
-  pub step_of : (old new : S) → IsQuiet g.view g.faults g.recovers g.is_shielded old new → (IsClean (g.view new) → KeepsLast (g.view old) (g.view new)) → IsStep g old new
+  pub step_of : (old new : S) → IsQuiet g.view g.faults g.recovers g.is_shielded old new → (IsClean (g.view new) → KeepsLast (g.view old) (g.view new)) → IsStoreStep g old new
   step_of old new quiet kept = record {
     clean = λ clean. omega (arith, quiet.clean, clean);
     kept = kept;
     outcomes = quiet.outcomes;
   }
 
-  pub step_none : (s : S) → IsStep g s s
+  pub step_none : (s : S) → IsStoreStep g s s
   step_none s = record { clean = λ clean. clean; kept = λ _. writes_keep (g.view s) (g.view s) refl; outcomes = λ db h. h }
 
-  pub step_then : (a b c : S) → IsStep g a b → IsStep g b c → IsStep g a c
+  pub step_then : (a b c : S) → IsStoreStep g a b → IsStoreStep g b c → IsStoreStep g a c
   step_then a b c p q = record {
     clean = λ clean. p.clean (q.clean clean);
     kept = λ clean. keeps_then (g.view a) (g.view b) (g.view c) (p.kept (q.clean clean)) (q.kept clean);
@@ -229,13 +244,13 @@ on_err_weaker (Err e) f p = f p
 
 module _ {S T E : Type 0} (g : Ghosts S) (old new : S) (r : Result T E) (quiet : IsQuiet g.view g.faults g.recovers g.is_shielded old new) where
   -- a write that rolls back where it fails
-  pub write_step : OnOk r (IsClean (g.view new) → OnlyWrites (g.view old) (g.view new)) → (IsClean (g.view new) → OnErr r (IsRolledBack (g.view old) (g.view new))) → IsStep g old new
+  pub write_step : OnOk r (IsClean (g.view new) → OnlyWrites (g.view old) (g.view new)) → (IsClean (g.view new) → OnErr r (IsRolledBack (g.view old) (g.view new))) → IsStoreStep g old new
   write_step frame err =
       step_of g old new quiet
       (λ clean. either r (on_ok_weaker r (λ only. writes_keep _ _ (only clean)) frame) (on_err_weaker r (λ back. rolled_keeps _ _ back clean) (err clean)))
 
   -- a call that only reads
-  pub read_step : OnOk r (IsClean (g.view new) → OnlyReads (g.view old) (g.view new)) → OnErr r (IsClean (g.view new) → KeepsCommitted (g.view old) (g.view new)) → IsStep g old new
+  pub read_step : OnOk r (IsClean (g.view new) → OnlyReads (g.view old) (g.view new)) → OnErr r (IsClean (g.view new) → KeepsCommitted (g.view old) (g.view new)) → IsStoreStep g old new
   read_step reads err =
       step_of g old new quiet
       (λ clean. either r (on_ok_weaker r (λ only. reads_keep _ _ (only clean)) reads) (on_err_weaker r (λ kept. failure_keeps _ _ (kept clean)) err))
@@ -251,8 +266,10 @@ pub record IsUnderWay (first now : View) (rest whole : Tables) : Type 0 where
 pub begins : (first : View) (t : Tables) → IsFit first → IsUnderWay first first t t
 begins first t fit = record { fit = fit; only = refl; leads = refl }
 
-pub goes_on_at : {X : Type 0} (first now next : View) (part : List X → Tables → Tables) (xs : List X) (i : ℕ) (x : X) (whole : Tables) → ((x : X) (rest : List X) (t : Tables) → part (x ∷ rest) t ≡ part rest (part (x ∷ []) t)) → i < length xs → x ≡ get_or xs i x
-    → IsUnderWay first now (part (drop i xs) (tables_in now.trees)) whole → Makes now next (part (x ∷ []) (tables_in now.trees)) → IsUnderWay first next (part (drop (i + 1) xs) (tables_in next.trees)) whole
+pub goes_on_at : {X : Type 0} (first now next : View) (part : List X → Tables → Tables) (xs : List X) (i : ℕ) (x : X) (whole : Tables)
+    → ((x : X) (rest : List X) (t : Tables) → part (x ∷ rest) t ≡ part rest (part (x ∷ []) t)) → i < length xs → x ≡ get_or xs i x
+    → IsUnderWay first now (part (drop i xs) (tables_in now.trees)) whole → Makes now next (part (x ∷ []) (tables_in now.trees))
+    → IsUnderWay first next (part (drop (i + 1) xs) (tables_in next.trees)) whole
 goes_on_at first now next part xs i x whole parts low is way made =
     let rest = drop (i + 1) xs in
     let split : drop i xs ≡ x ∷ rest = drop_more xs i x low ∙ ap (λ y. y ∷ rest) (sym is) in
@@ -274,7 +291,8 @@ all_made first now part xs i none high way =
     }
 
 -- none of these is there to be taken
-pub taken_same : {R K : Type 0} (f : Form R K) (rows_of : Tables → List R) (with_rows : List R → Tables → Tables) → IsTableOf AreHeld tables_in f rows_of with_rows → (id_of : R → Id) (gone : List Id) (trees : Trees)
+pub taken_same : {R K : Type 0} (f : Form R K) (rows_of : Tables → List R) (with_rows : List R → Tables → Tables)
+    → IsTableOf AreHeld tables_in f rows_of with_rows → (id_of : R → Id) (gone : List Id) (trees : Trees)
     → rows_without id_of gone (in_order f (trees f.table.tree)) ≡ in_order f (trees f.table.tree) → rows_taken id_of rows_of with_rows gone (tables_in trees) ≡ tables_in trees
 taken_same f rows_of with_rows is id_of gone trees same =
     let read = is.read trees in
@@ -290,7 +308,7 @@ open_if_sound v shut sound = go v.is_open refl
     go true e = subst IsTrue (sym e) refl
     go false e = absurd (true≢false (sym (subst IsTrue sound (shut e))))
 
-pub commits_settle : (old mid new : View) (t : Tables) → Makes old mid t → Commits mid new → Settles new t
+pub commits_settle : (old mid new : View) (t : Tables) → Makes old mid t → Commits mid new → SettlesOn new t
 commits_settle old mid new t made commits =
     let trees : new.trees ≡ mid.trees = ap (λ (v : View). v.trees) commits.is in
     let shape : new.shape ≡ mid.shape = ap (λ (v : View). v.shape) commits.is in
@@ -311,7 +329,7 @@ commits_settle old mid new t made commits =
 pub commit_open : (old mid new : View) (t : Tables) → Makes old mid t → Commits mid new → IsTrue old.is_open → IsTrue new.is_open
 commit_open old mid new t made commits opened = subst IsTrue (sym (ap (λ (v : View). v.is_open) commits.is ∙ ap (λ (v : View). v.is_open) made.only)) opened
 
-pub rolled_stays : (old mid new : View) → IsKept old → old.shape ≡ old.committed_shape → KeepsLast old mid → IsRolledBack mid new → IsClean new → IsTrue new.is_open → Stays old new
+pub rolled_stays : (old mid new : View) → IsViewKept old → old.shape ≡ old.committed_shape → KeepsLast old mid → IsRolledBack mid new → IsClean new → IsTrue new.is_open → StaysAsKept old new
 rolled_stays old mid new was shapes keeps back clean opened =
     let undone = back.undone opened in
     let over = back.kept clean in

@@ -12,6 +12,6 @@ pub record IsFit (v : View) : Type 0 where
   pub indexed : AreIndexed v.trees
 
 -- between transactions: nothing is uncommitted
-pub record IsKept (v : View) : Type 0 where
+pub record IsViewKept (v : View) : Type 0 where
   pub fit : IsFit v
   pub settled : v.trees ≡ v.committed

@@ -10,8 +10,8 @@ use Rattle.sqlite_rules.specs.Lists.{Has}
 use Rattle.mr_model.specs.Writes.{Id}
 use Rattle.mr_rows.specs.Form.{Form}
 
-abbrev pub id_cells : Id → Row
-id_cells id = Int (pos id.server) ∷ Int (pos id.n) ∷ []
+abbrev pub id_key : Id → Row
+id_key id = Int (pos id.server) ∷ Int (pos id.n) ∷ []
 
 -- the row has this key in these columns
 abbrev pub HasKey : List ℕ → Row → Row → Type 0
@@ -26,9 +26,9 @@ abbrev pub IsPlace : (Row → Type 0) → List Row → ℤ → Type 0
 IsPlace HasIt rows id = (r : Row) → Has rows r → (value_cmp (rowid r) (Int id) ≡ Equal → HasIt r) × (HasIt r → value_cmp (rowid r) (Int id) ≡ Equal)
 
 -- the rowid of the one row of which it is so, or it is so of none
-abbrev pub IsAt : (Row → Type 0) → List Row → Option ℤ → Type 0
-IsAt HasIt rows (Some id) = IsPlace HasIt rows id
-IsAt HasIt rows None = (r : Row) → Has rows r → HasIt r → ⊥
+abbrev pub IsRowidOf : (Row → Type 0) → List Row → Option ℤ → Type 0
+IsRowidOf HasIt rows (Some id) = IsPlace HasIt rows id
+IsRowidOf HasIt rows None = (r : Row) → Has rows r → HasIt r → ⊥
 
 -- the rowid of the row with this key, if there is one, and of no other row
 abbrev pub IsPlaceFor : {R K : Type 0} → Form R K → K → List Row → ℤ → Type 0

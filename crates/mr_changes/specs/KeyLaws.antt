@@ -10,7 +10,7 @@ use Rattle.sqlite_value.specs.Keys.{plain, first_key, prefix_cmp}
 use Rattle.sqlite_value.proofs.OrderLemmas.{value_cmp_total, value_cmp-Int, value_cmp-Text}
 use Rattle.mr_model.specs.Texts as texts
 use Rattle.mr_model.specs.Writes.{Id}
-use Rattle.mr_changes.specs.Found.{id_cells}
+use Rattle.mr_changes.specs.Found.{id_key}
 
 then_equal : (c : Ordering) → ordering_then c Equal ≡ c
 then_equal Less = refl
@@ -49,12 +49,12 @@ value_same v rest = prefix_one v v rest ∙ tied_itself value_cmp_total v
 
 -- ---- ids
 
-pub id_alike : (a b : Id) (rest : Row) → prefix_cmp plain (id_cells a ++ rest) (id_cells b) ≡ Equal → a ≡ b
+pub id_alike : (a b : Id) (rest : Row) → prefix_cmp plain (id_key a ++ rest) (id_key b) ≡ Equal → a ≡ b
 id_alike a b rest h =
     let both = both_equal _ _ (sym (prefix_two _ _ _ _ rest) ∙ h) in
     let server = same_number a.server b.server both.0 in
     let n = same_number a.n b.n both.1 in
     λ i. record { server = server i; n = n i }
 
-pub id_same : (a : Id) (rest : Row) → prefix_cmp plain (id_cells a ++ rest) (id_cells a) ≡ Equal
+pub id_same : (a : Id) (rest : Row) → prefix_cmp plain (id_key a ++ rest) (id_key a) ≡ Equal
 id_same a rest = prefix_two _ _ _ _ rest ∙ (λ i. ordering_then (tied_itself value_cmp_total (Int (pos a.server)) i) (tied_itself value_cmp_total (Int (pos a.n)) i))

@@ -5,7 +5,7 @@ use Rattle.sqlite_trees.specs.View.{View, IsClean, OnlyWrites}
 use Rattle.sqlite_trees.specs.declared.store.Store.{Ghosts}
 use Rattle.mr_model.specs.Tables.{Tables}
 use Rattle.mr_rows.specs.Database.{tables_in}
-use Rattle.mr_changes.specs.Fit.{IsFit, IsKept}
+use Rattle.mr_changes.specs.Fit.{IsFit, IsViewKept}
 
 -- while the store is open, the last commit stands
 pub record KeepsLast (old new : View) : Type 0 where
@@ -15,7 +15,7 @@ pub record KeepsLast (old new : View) : Type 0 where
   pub last_shape : new.committed_shape ≡ old.committed_shape
 
 -- a call within a transaction, whatever it answers: nothing is committed
-pub record IsStep {S : Type 0} (g : Ghosts S) (old new : S) : Type 0 where
+pub record IsStoreStep {S : Type 0} (g : Ghosts S) (old new : S) : Type 0 where
   pub clean : IsClean (g.view new) → IsClean (g.view old)
   pub kept : IsClean (g.view new) → KeepsLast (g.view old) (g.view new)
   pub outcomes : (db : Trees) → g.recovers new db → g.recovers old db
@@ -27,11 +27,11 @@ pub record Makes (old new : View) (t : Tables) : Type 0 where
   pub only : OnlyWrites old new
 
 -- the tables became these, and are committed
-pub record Settles (new : View) (t : Tables) : Type 0 where
-  pub kept : IsKept new
+pub record SettlesOn (new : View) (t : Tables) : Type 0 where
+  pub kept : IsViewKept new
   pub tables_are : tables_in new.trees ≡ t
 
 -- the tables are those that they were
-pub record Stays (old new : View) : Type 0 where
-  pub kept : IsKept new
+pub record StaysAsKept (old new : View) : Type 0 where
+  pub kept : IsViewKept new
   pub trees : new.trees ≡ old.trees

@@ -9,7 +9,7 @@ ghost use Rattle.sqlite_trees.specs.declared.store.Shape.TheVariants.{Index};
 ghost use Rattle.sqlite_rules.specs.Lists.{Has};
 ghost use Rattle.sqlite_exec.specs.Calls.{OnlyReads};
 ghost use Rattle.mr_changes.specs.Fit.{IsFit};
-ghost use Rattle.mr_changes.specs.Found.{HasKey, IsAlone, IsAt, IsPlaceFor, FindsEntry};
+ghost use Rattle.mr_changes.specs.Found.{HasKey, IsAlone, IsRowidOf, IsPlaceFor, FindsEntry};
 
 use crate::placed::PlacedRow;
 use sqlite_exec::write;
@@ -55,7 +55,7 @@ pub(crate) fn find<R: PlacedRow, S: Store>(
 ) -> Result<Option<i64>, StoreError>
     requires fit { IsClean (S.Store.view store.old) → IsFit (S.Store.view store.old) }
     ensures found { IfOk result (λ at. IsClean (S.Store.view store.new) → IsAlone (HasKey R.key_at key.now) ((S.Store.view store.old).trees R.StoredRow.form.table.tree)
-        → IsAt (HasKey R.key_at key.now) ((S.Store.view store.old).trees R.StoredRow.form.table.tree) at) }
+        → IsRowidOf (HasKey R.key_at key.now) ((S.Store.view store.old).trees R.StoredRow.form.table.tree) at) }
     ensures reads { OnOk result (IsClean (S.Store.view store.new) → OnlyReads (S.Store.view store.old) (S.Store.view store.new)) }
     ensures err { OnErr result (IsClean (S.Store.view store.new) → KeepsCommitted (S.Store.view store.old) (S.Store.view store.new)) }
     ensures quiet { IsQuiet S.Store.view S.Store.faults S.Store.recovers S.Store.is_shielded store.old store.new }

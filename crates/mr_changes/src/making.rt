@@ -2,9 +2,9 @@ ghost use Rattle.std.specs.Prelude.{◌≡◌, OnOk};
 ghost use Rattle.sqlite_trees.specs.View.{IsClean};
 ghost use Rattle.mr_rows.specs.Database.{tables_in};
 ghost use Rattle.mr_rows.specs.TableSteps.{rows_put as rows_in, rows_taken as rows_gone};
-ghost use Rattle.mr_rows.specs.ChangeParts.{board_taken, rows_taken, heads_put, board_put, cancels_put, rows_put, rows_made};
+ghost use Rattle.mr_rows.specs.ChangeParts.{board_taken, change_taken, heads_put, board_put, cancels_put, change_put, rows_made};
 ghost use Rattle.mr_changes.specs.Fit.{IsFit};
-ghost use Rattle.mr_changes.specs.Steps.{IsStep, Makes};
+ghost use Rattle.mr_changes.specs.Steps.{IsStoreStep, Makes};
 
 use crate::meta::put_meta;
 use crate::placed::{IdRow, PlacedRow};
@@ -25,7 +25,7 @@ fn take_all<R: IdRow, S: Store>(
 ) -> Result<(), StoreError>
     requires fit { IsClean (S.Store.view store.old) → IsFit (S.Store.view store.old) }
     ensures made { OnOk result (IsClean (S.Store.view store.new) → Makes (S.Store.view store.old) (S.Store.view store.new) (rows_gone R.id_of R.OurRow.rows_of R.OurRow.with_rows gone.now (tables_in (S.Store.view store.old).trees))) }
-    ensures step { IsStep S.Store store.old store.new }
+    ensures step { IsStoreStep S.Store store.old store.new }
 {
     'gone: for id in gone {
         take_row::<R, S>(store, work, alloc, *id)?;
@@ -42,7 +42,7 @@ fn put_all<R: PlacedRow, S: Store>(
 ) -> Result<(), StoreError>
     requires fit { IsClean (S.Store.view store.old) → IsFit (S.Store.view store.old) }
     ensures made { OnOk result (IsClean (S.Store.view store.new) → Makes (S.Store.view store.old) (S.Store.view store.new) (rows_in R.StoredRow.form R.OurRow.rows_of R.OurRow.with_rows rows.now (tables_in (S.Store.view store.old).trees))) }
-    ensures step { IsStep S.Store store.old store.new }
+    ensures step { IsStoreStep S.Store store.old store.new }
 {
     'rows: for row in rows {
         put_row(store, work, alloc, row)?;
@@ -59,7 +59,7 @@ fn take_from_board<S: Store>(
 ) -> Result<(), StoreError>
     requires fit { IsClean (S.Store.view store.old) → IsFit (S.Store.view store.old) }
     ensures made { OnOk result (IsClean (S.Store.view store.new) → Makes (S.Store.view store.old) (S.Store.view store.new) (board_taken change.now (tables_in (S.Store.view store.old).trees))) }
-    ensures step { IsStep S.Store store.old store.new }
+    ensures step { IsStoreStep S.Store store.old store.new }
 {
     take_all::<BookingRow, S>(store, work, alloc, &change.unbooked)?;
     take_all::<ErrorRow, S>(store, work, alloc, &change.unlogged)
@@ -73,8 +73,8 @@ fn take_rows<S: Store>(
     change: &Change,
 ) -> Result<(), StoreError>
     requires fit { IsClean (S.Store.view store.old) → IsFit (S.Store.view store.old) }
-    ensures made { OnOk result (IsClean (S.Store.view store.new) → Makes (S.Store.view store.old) (S.Store.view store.new) (rows_taken change.now (tables_in (S.Store.view store.old).trees))) }
-    ensures step { IsStep S.Store store.old store.new }
+    ensures made { OnOk result (IsClean (S.Store.view store.new) → Makes (S.Store.view store.old) (S.Store.view store.new) (change_taken change.now (tables_in (S.Store.view store.old).trees))) }
+    ensures step { IsStoreStep S.Store store.old store.new }
 {
     take_all::<LogRow, S>(store, work, alloc, &change.dropped)?;
     take_from_board(store, work, alloc, change)?;
@@ -90,7 +90,7 @@ fn put_into_board<S: Store>(
 ) -> Result<(), StoreError>
     requires fit { IsClean (S.Store.view store.old) → IsFit (S.Store.view store.old) }
     ensures made { OnOk result (IsClean (S.Store.view store.new) → Makes (S.Store.view store.old) (S.Store.view store.new) (board_put change.now (tables_in (S.Store.view store.old).trees))) }
-    ensures step { IsStep S.Store store.old store.new }
+    ensures step { IsStoreStep S.Store store.old store.new }
 {
     put_all::<BookingRow, S>(store, work, alloc, &change.booking)?;
     put_all::<ErrorRow, S>(store, work, alloc, &change.errorlog)
@@ -105,7 +105,7 @@ fn put_into_cancels<S: Store>(
 ) -> Result<(), StoreError>
     requires fit { IsClean (S.Store.view store.old) → IsFit (S.Store.view store.old) }
     ensures made { OnOk result (IsClean (S.Store.view store.new) → Makes (S.Store.view store.old) (S.Store.view store.new) (cancels_put change.now (tables_in (S.Store.view store.old).trees))) }
-    ensures step { IsStep S.Store store.old store.new }
+    ensures step { IsStoreStep S.Store store.old store.new }
 {
     put_all::<CancelledRow, S>(store, work, alloc, &change.cancelled)?;
     put_all::<CancelRow, S>(store, work, alloc, &change.cancels)
@@ -119,8 +119,8 @@ fn put_rows<S: Store>(
     change: &Change,
 ) -> Result<(), StoreError>
     requires fit { IsClean (S.Store.view store.old) → IsFit (S.Store.view store.old) }
-    ensures made { OnOk result (IsClean (S.Store.view store.new) → Makes (S.Store.view store.old) (S.Store.view store.new) (rows_put change.now (tables_in (S.Store.view store.old).trees))) }
-    ensures step { IsStep S.Store store.old store.new }
+    ensures made { OnOk result (IsClean (S.Store.view store.new) → Makes (S.Store.view store.old) (S.Store.view store.new) (change_put change.now (tables_in (S.Store.view store.old).trees))) }
+    ensures step { IsStoreStep S.Store store.old store.new }
 {
     put_all::<LogRow, S>(store, work, alloc, &change.log)?;
     put_into_board(store, work, alloc, change)?;
@@ -136,7 +136,7 @@ pub(crate) fn put_heads<S: Store>(
 ) -> Result<(), StoreError>
     requires fit { IsClean (S.Store.view store.old) → IsFit (S.Store.view store.old) }
     ensures made { OnOk result (IsClean (S.Store.view store.new) → Makes (S.Store.view store.old) (S.Store.view store.new) (heads_put change.now (tables_in (S.Store.view store.old).trees))) }
-    ensures step { IsStep S.Store store.old store.new }
+    ensures step { IsStoreStep S.Store store.old store.new }
 {
     put_meta(store, work, alloc, &change.meta)?;
     put_all::<RoomName, S>(store, work, alloc, &change.room)?;
@@ -152,7 +152,7 @@ pub(crate) fn make_rows<S: Store>(
 ) -> Result<(), StoreError>
     requires fit { IsClean (S.Store.view store.old) → IsFit (S.Store.view store.old) }
     ensures made { OnOk result (IsClean (S.Store.view store.new) → Makes (S.Store.view store.old) (S.Store.view store.new) (rows_made change.now (tables_in (S.Store.view store.old).trees))) }
-    ensures step { IsStep S.Store store.old store.new }
+    ensures step { IsStoreStep S.Store store.old store.new }
 {
     take_rows(store, work, alloc, change)?;
     put_rows(store, work, alloc, change)

@@ -8,7 +8,7 @@ ghost use Rattle.mr_rows.specs.Database.{tables_in};
 ghost use Rattle.mr_rows.specs.ChangeParts.{put_meta as with_meta};
 ghost use Rattle.mr_changes.specs.Fit.{IsFit};
 ghost use Rattle.mr_changes.specs.Found.{IsPlaceFor};
-ghost use Rattle.mr_changes.specs.Steps.{IsStep, Makes};
+ghost use Rattle.mr_changes.specs.Steps.{IsStoreStep, Makes};
 
 use crate::key_indexes::indexes;
 use mr_tables::MetaRow;
@@ -76,7 +76,7 @@ pub(crate) fn put_meta<S: Store>(
     requires fit { IsClean (S.Store.view store.old) → IsFit (S.Store.view store.old) }
     ensures put { OnOk result (IsClean (S.Store.view store.new)
         → Makes (S.Store.view store.old) (S.Store.view store.new) (with_meta meta.now (tables_in (S.Store.view store.old).trees))) }
-    ensures step { IsStep S.Store store.old store.new }
+    ensures step { IsStoreStep S.Store store.old store.new }
 {
     let mut last = Row::new(alloc);
     let id = place_of_meta(store, &mut last)?;

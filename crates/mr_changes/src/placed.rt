@@ -10,7 +10,7 @@ ghost use Rattle.mr_model.specs.Writes.{Id};
 ghost use Rattle.mr_model.specs.Queries.{booking_id, error_id, cancelled_id, cancel_id, log_id};
 ghost use Rattle.mr_rows.specs.Database.{IsRowOf};
 ghost use Rattle.mr_changes.specs.Indexed.{is_ours, AreIndexed};
-ghost use Rattle.mr_changes.specs.Found.{id_cells};
+ghost use Rattle.mr_changes.specs.Found.{id_key};
 ghost use Rattle.mr_changes.specs.KeyLaws.{number_alike, text_alike, value_same, id_alike, id_same};
 
 use mr_base::{RoomName, WriteId};
@@ -50,12 +50,12 @@ pub(crate) trait PlacedRow: OurRow {
 pub(crate) trait IdRow: PlacedRow {
     ghost id_of: { Self → Id };
 
-    ghost by_id: { (x : Self) → Self.PlacedRow.key_of x ≡ id_cells (id_of x) };
+    ghost by_id: { (x : Self) → Self.PlacedRow.key_of x ≡ id_key (id_of x) };
 }
 
 /// Puts an id behind the cells that are there.
 pub(crate) fn put_id(id: WriteId, key: &mut Row) -> Result<(), AllocError>
-    ensures { OnOk result (key.new ≡ key.old ++ id_cells id) }
+    ensures { OnOk result (key.new ≡ key.old ++ id_key id) }
 {
     key.push(ValueRef::Int(i64::from(id.server.number())))?;
     key.push(ValueRef::Int(i64::from(id.n)))
@@ -110,7 +110,7 @@ impl PlacedRow for VectorRow {
 }
 
 impl PlacedRow for LogRow {
-    ghost key_of = { λ row. id_cells (log_id row) };
+    ghost key_of = { λ row. id_key (log_id row) };
 
     ghost key_at = { 1 ∷ 2 ∷ [] };
 
@@ -130,11 +130,11 @@ impl PlacedRow for LogRow {
 
     ghost alike = { λ a b rest tie. id_alike (log_id a) (log_id b) rest tie };
 
-    ghost same = { λ a b rest is. subst (λ c. prefix_cmp plain (id_cells (log_id a) ++ rest) (id_cells c) ≡ Equal) is (id_same (log_id a) rest) };
+    ghost same = { λ a b rest is. subst (λ c. prefix_cmp plain (id_key (log_id a) ++ rest) (id_key c) ≡ Equal) is (id_same (log_id a) rest) };
 }
 
 impl PlacedRow for BookingRow {
-    ghost key_of = { λ row. id_cells (booking_id row) };
+    ghost key_of = { λ row. id_key (booking_id row) };
 
     ghost key_at = { 5 ∷ 6 ∷ [] };
 
@@ -154,11 +154,11 @@ impl PlacedRow for BookingRow {
 
     ghost alike = { λ a b rest tie. id_alike (booking_id a) (booking_id b) rest tie };
 
-    ghost same = { λ a b rest is. subst (λ c. prefix_cmp plain (id_cells (booking_id a) ++ rest) (id_cells c) ≡ Equal) is (id_same (booking_id a) rest) };
+    ghost same = { λ a b rest is. subst (λ c. prefix_cmp plain (id_key (booking_id a) ++ rest) (id_key c) ≡ Equal) is (id_same (booking_id a) rest) };
 }
 
 impl PlacedRow for ErrorRow {
-    ghost key_of = { λ row. id_cells (error_id row) };
+    ghost key_of = { λ row. id_key (error_id row) };
 
     ghost key_at = { 5 ∷ 6 ∷ [] };
 
@@ -178,11 +178,11 @@ impl PlacedRow for ErrorRow {
 
     ghost alike = { λ a b rest tie. id_alike (error_id a) (error_id b) rest tie };
 
-    ghost same = { λ a b rest is. subst (λ c. prefix_cmp plain (id_cells (error_id a) ++ rest) (id_cells c) ≡ Equal) is (id_same (error_id a) rest) };
+    ghost same = { λ a b rest is. subst (λ c. prefix_cmp plain (id_key (error_id a) ++ rest) (id_key c) ≡ Equal) is (id_same (error_id a) rest) };
 }
 
 impl PlacedRow for CancelledRow {
-    ghost key_of = { λ row. id_cells (cancelled_id row) };
+    ghost key_of = { λ row. id_key (cancelled_id row) };
 
     ghost key_at = { 5 ∷ 6 ∷ [] };
 
@@ -202,11 +202,11 @@ impl PlacedRow for CancelledRow {
 
     ghost alike = { λ a b rest tie. id_alike (cancelled_id a) (cancelled_id b) rest tie };
 
-    ghost same = { λ a b rest is. subst (λ c. prefix_cmp plain (id_cells (cancelled_id a) ++ rest) (id_cells c) ≡ Equal) is (id_same (cancelled_id a) rest) };
+    ghost same = { λ a b rest is. subst (λ c. prefix_cmp plain (id_key (cancelled_id a) ++ rest) (id_key c) ≡ Equal) is (id_same (cancelled_id a) rest) };
 }
 
 impl PlacedRow for CancelRow {
-    ghost key_of = { λ row. id_cells (cancel_id row) };
+    ghost key_of = { λ row. id_key (cancel_id row) };
 
     ghost key_at = { 1 ∷ 2 ∷ [] };
 
@@ -226,7 +226,7 @@ impl PlacedRow for CancelRow {
 
     ghost alike = { λ a b rest tie. id_alike (cancel_id a) (cancel_id b) rest tie };
 
-    ghost same = { λ a b rest is. subst (λ c. prefix_cmp plain (id_cells (cancel_id a) ++ rest) (id_cells c) ≡ Equal) is (id_same (cancel_id a) rest) };
+    ghost same = { λ a b rest is. subst (λ c. prefix_cmp plain (id_key (cancel_id a) ++ rest) (id_key c) ≡ Equal) is (id_same (cancel_id a) rest) };
 }
 
 impl IdRow for LogRow {

@@ -5,7 +5,7 @@ ghost use Rattle.mr_rows.specs.Database.{tables_in};
 ghost use Rattle.mr_rows.specs.TableSteps.{rows_put, rows_taken};
 ghost use Rattle.mr_changes.specs.Fit.{IsFit};
 ghost use Rattle.mr_changes.specs.Found.{IsPlaceFor};
-ghost use Rattle.mr_changes.specs.Steps.{IsStep, Makes};
+ghost use Rattle.mr_changes.specs.Steps.{IsStoreStep, Makes};
 
 use crate::finds::{find, place_of};
 use crate::key_indexes::indexes;
@@ -68,7 +68,7 @@ fn put_at<R: PlacedRow, S: Store>(
     ensures put { OnOk result (IsClean (S.Store.view store.new)
         → IsPlaceFor R.StoredRow.form (R.StoredRow.form.key row.now) ((S.Store.view store.old).trees R.StoredRow.form.table.tree) id
         → Makes (S.Store.view store.old) (S.Store.view store.new) (rows_put R.StoredRow.form R.OurRow.rows_of R.OurRow.with_rows (row.now ∷ []) (tables_in (S.Store.view store.old).trees))) }
-    ensures step { IsStep S.Store store.old store.new }
+    ensures step { IsStoreStep S.Store store.old store.new }
 {
     let stored = make_stored(alloc, row, id)?;
     write::put(store, work, indexes(), R::table(), &stored)
@@ -84,7 +84,7 @@ pub(crate) fn put_row<R: PlacedRow, S: Store>(
     requires fit { IsClean (S.Store.view store.old) → IsFit (S.Store.view store.old) }
     ensures put { OnOk result (IsClean (S.Store.view store.new)
         → Makes (S.Store.view store.old) (S.Store.view store.new) (rows_put R.StoredRow.form R.OurRow.rows_of R.OurRow.with_rows (row.now ∷ []) (tables_in (S.Store.view store.old).trees))) }
-    ensures step { IsStep S.Store store.old store.new }
+    ensures step { IsStoreStep S.Store store.old store.new }
 {
     let id = place_of(store, alloc, row)?;
     put_at(store, work, alloc, row, id)
@@ -100,7 +100,7 @@ pub(crate) fn take_row<R: IdRow, S: Store>(
     requires fit { IsClean (S.Store.view store.old) → IsFit (S.Store.view store.old) }
     ensures taken { OnOk result (IsClean (S.Store.view store.new)
         → Makes (S.Store.view store.old) (S.Store.view store.new) (rows_taken R.id_of R.OurRow.rows_of R.OurRow.with_rows (id ∷ []) (tables_in (S.Store.view store.old).trees))) }
-    ensures step { IsStep S.Store store.old store.new }
+    ensures step { IsStoreStep S.Store store.old store.new }
 {
     let mut key = Row::new(alloc);
     put_id(id, &mut key)?;

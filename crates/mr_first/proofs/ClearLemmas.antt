@@ -32,7 +32,8 @@ none_left [] = refl
 none_left (r ∷ rows) = none_left rows
 
 -- a text that takes all rows of a table away
-clears : {R K : Type 0} (f : Form R K) (facts : Facts first_schema f) (text : List ℕ) (old new : State) (r : Result ℕ Error) → MeansIn first_schema text (Delete facts.place (program_of f.table.tree [] (col 1 0 ∷ [])))
+clears : {R K : Type 0} (f : Form R K) (facts : Facts first_schema f) (text : List ℕ) (old new : State) (r : Result ℕ Error)
+    → MeansIn first_schema text (Delete facts.place (program_of f.table.tree [] (col 1 0 ∷ [])))
     → old.now.schema ≡ first_schema → IsShelf (old.now.trees f.table.tree) → ExecutesInside 0 text [] old new r → OnOk r (IsCleared f.table.tree old new)
 clears f facts text old new (Err e) means schema shelf h = tt
 clears f facts text old new (Ok count) means schema shelf h =

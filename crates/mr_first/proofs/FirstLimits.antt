@@ -3,7 +3,8 @@ use Rattle.std.proofs.Common.{◌≡◌, ◌<◌, suc, length, map, true, ◌&&�
 use Rattle.std.proofs.lemmas.Bool.{and_parts, and_from, true≢false}
 use Rattle.std.specs.List.{AllByRecursion, slice_get}
 use Rattle.sqlite_trees.specs.Tree.{Trees}
-use Rattle.mr_model.specs.Writes.{Action, Books, Cancels, Write, length_in, title_in, is_length, is_title, is_room_name, is_server, is_count, is_time, is_first_action, is_first_write, choices_of, choices_in}
+use Rattle.mr_model.specs.Writes.{Action, Books, Cancels, Write, length_in, title_in, is_length, is_title, is_room_name}
+use Rattle.mr_model.specs.Writes.{is_server, is_count, is_time, is_first_action, is_first_write, choices_of, choices_in}
 use Rattle.mr_model.specs.Replay.{Place, slot_at}
 use Rattle.mr_model.specs.Replica.{Replica, IsReplica}
 use Rattle.mr_model.specs.View.{place_of}
@@ -47,7 +48,8 @@ place_fits w p (did t f at) first = absurd (true≢false (sym (sym (ap is_first_
 place_fits w p (missed t f at) first = absurd (true≢false (sym (sym (ap is_first_action f) ∙ first)))
 
 -- and its cells are a meeting's
-meeting_fits : (a : Action) → is_first_action a ≡ true → is_action_cells (cells_of a) ≡ true → (is_length (length_in a) && is_choices (length_in a) (choices_in_cells (cells_of a)) && is_title (title_in a)) ≡ true
+meeting_fits : (a : Action) → is_first_action a ≡ true → is_action_cells (cells_of a) ≡ true
+    → (is_length (length_in a) && is_choices (length_in a) (choices_in_cells (cells_of a)) && is_title (title_in a)) ≡ true
 meeting_fits (Books m) first fits = fits
 meeting_fits (Cancels t) first fits = absurd (true≢false (sym first))
 
@@ -86,12 +88,14 @@ module _ (t : FirstTables) (r : Replica) (stands : StandsFirst t r) where
   writes_fit : AllByRecursion (λ row. IsTrue (is_write_row row)) t.write_log
   writes_fit =
       subst (λ (x : FirstTables). AllByRecursion (λ row. IsTrue (is_write_row row)) x.write_log) (sym stands.are)
-      (has_all (λ row. IsTrue (is_write_row row)) (map (write_row r) (kept r)) (λ row g. let (w, i, e) = map_has (write_row r) row (kept r) g in ap is_write_row e ∙ write_fits r stands.sound w i (all_first w i)))
+      (has_all (λ row. IsTrue (is_write_row row)) (map (write_row r) (kept r)) (λ row g. let (w, i, e) = map_has (write_row r) row (kept r) g in
+      ap is_write_row e ∙ write_fits r stands.sound w i (all_first w i)))
 
   undos_fit : AllByRecursion (λ row. IsTrue (is_undo_row row)) t.undo
   undos_fit =
       subst (λ (x : FirstTables). AllByRecursion (λ row. IsTrue (is_undo_row row)) x.undo) (sym stands.are)
-      (has_all (λ row. IsTrue (is_undo_row row)) (map (undo_row r) (kept r)) (λ row g. let (w, i, e) = map_has (undo_row r) row (kept r) g in ap is_undo_row e ∙ undo_fits r stands.sound w i (all_first w i)))
+      (has_all (λ row. IsTrue (is_undo_row row)) (map (undo_row r) (kept r)) (λ row g. let (w, i, e) = map_has (undo_row r) row (kept r) g in
+      ap is_undo_row e ∙ undo_fits r stands.sound w i (all_first w i)))
 
 -- ---- the whole
 

@@ -13,7 +13,7 @@ use Rattle.std.proofs.lemmas.Result.{on_ok_weaker}
 use Rattle.mr_first.specs.FirstParts.{put_first_meta}
 use Rattle.mr_rows.specs.Form.{Form, room_form, vector_form, booking_form, error_form}
 use Rattle.mr_rows.specs.Database.{IsHeld, first_meta, in_order}
-use Rattle.mr_rows.specs.TableSteps.{overlaid, Turns, PutsRow, IsTableOf, rows_put}
+use Rattle.mr_rows.specs.TableSteps.{trees_with, Turns, PutsRow, IsTableOf, rows_put}
 use Rattle.mr_tables.specs.Change.{put}
 use Rattle.mr_rows.proofs.StepLemmas.{none_of, keeps_then, clean_before, first_put}
 use Rattle.mr_first.specs.Forms.{first_meta_form, write_form, undo_form}
@@ -77,7 +77,8 @@ held_same a b same held = record {
 }
 
 -- where one table turns, the others stay
-steps : {R K : Type 0} (f : Form R K) (rows_of : FirstTables → List R) (with_rows : List R → FirstTables → FirstTables) → IsTableOf AreHeldFirst first_in f rows_of with_rows → (old new : State) (xs : List R) → IsFirst old.now → Turns first_schema f old new xs
+steps : {R K : Type 0} (f : Form R K) (rows_of : FirstTables → List R) (with_rows : List R → FirstTables → FirstTables)
+    → IsTableOf AreHeldFirst first_in f rows_of with_rows → (old new : State) (xs : List R) → IsFirst old.now → Turns first_schema f old new xs
     → IsFirstStep old new (with_rows xs (first_in old.now.trees))
 steps f rows_of with_rows is old new xs first turns = record {
   ours = record { schema = turns.schema; held = held_same _ _ turns.trees (is.held old.now.trees turns.rows first.held turns.held) };
@@ -87,7 +88,8 @@ steps f rows_of with_rows is old new xs first turns = record {
 }
 
 -- so a row that is put into one is put into all
-pub makes_put : {R K X : Type 0} (f : Form R K) (rows_of : FirstTables → List R) (with_rows : List R → FirstTables → FirstTables) → IsTableOf AreHeldFirst first_in f rows_of with_rows → (Stands : Schema → Type 0) → Stands first_schema
+pub makes_put : {R K X : Type 0} (f : Form R K) (rows_of : FirstTables → List R) (with_rows : List R → FirstTables → FirstTables)
+    → IsTableOf AreHeldFirst first_in f rows_of with_rows → (Stands : Schema → Type 0) → Stands first_schema
     → (old new : State) (x : R) (r : Result X Error) → PutsRow Stands f x old new r → MakesFirst old new (rows_put f rows_of with_rows (x ∷ []) (first_in old.now.trees)) r
 makes_put f rows_of with_rows is Stands stands old new x r puts = (
   λ asked.
@@ -102,8 +104,12 @@ unfolding first_in
 meta_step old new xs first turns =
     let was = first.held in
     record {
-      ours = record { schema = turns.schema; held = held_same _ (overlaid old.now.trees 0 turns.rows) turns.trees (record { meta = turns.held; room = was.room; vector = was.vector; write_log = was.write_log; undo = was.undo; booking = was.booking; errorlog = was.errorlog }) };
-      tables_are = tables_same _ (overlaid old.now.trees 0 turns.rows) turns.trees ∙ ap (λ ys. record (first_in old.now.trees) { meta = first_meta ys }) turns.rows_are;
+      ours = record {
+        schema = turns.schema;
+        held = held_same _ (trees_with old.now.trees 0 turns.rows) turns.trees
+            (record { meta = turns.held; room = was.room; vector = was.vector; write_log = was.write_log; undo = was.undo; booking = was.booking; errorlog = was.errorlog });
+      };
+      tables_are = tables_same _ (trees_with old.now.trees 0 turns.rows) turns.trees ∙ ap (λ ys. record (first_in old.now.trees) { meta = first_meta ys }) turns.rows_are;
       committed = turns.committed;
       within = turns.within;
     }
@@ -119,7 +125,8 @@ makes_meta old new x r puts = (
 -- ---- one after another
 
 -- a step is made of those that are left
-goes_on : (first now next : State) (one rest both : FirstTables → FirstTables) (whole : FirstTables) → ((t : FirstTables) → both t ≡ rest (one t)) → IsFirstUnderWay first now (both (first_in now.now.trees)) whole
+goes_on : (first now next : State) (one rest both : FirstTables → FirstTables) (whole : FirstTables)
+    → ((t : FirstTables) → both t ≡ rest (one t)) → IsFirstUnderWay first now (both (first_in now.now.trees)) whole
     → (IsAskedFirst now next → IsFirstStep now next (one (first_in now.now.trees))) × (HasCleanDisk next → KeepsCommit now next) → Survives now next (λ _. ⊥)
     → IsFirstUnderWay first next (rest (first_in next.now.trees)) whole
 goes_on first now next one rest both whole parts way made s = (

@@ -14,14 +14,15 @@ use Rattle.sqlite.specs.Does.{Tally, lacks_sequence}
 use Rattle.sqlite.specs.Listing.{understood}
 use Rattle.sqlite.specs.State.{State, HasCleanDisk, Survives, Writes, ExecutesInside}
 use Rattle.sqlite.proofs.Callers.{runs_as}
-use Rattle.mr_rows.specs.Schema.{no_schema, first_schema, our_schema, meta_text, room_text, vector_text, write_log_text, undo_text, booking_text, error_text, log_text, cancelled_text, cancel_text, meta_table, room_table, vector_table, write_log_table, undo_table, booking_table, error_table, log_table, cancelled_table, cancel_table}
+use Rattle.mr_rows.specs.Schema.{no_schema, first_schema, our_schema, meta_text, room_text, vector_text, write_log_text, undo_text, booking_text, error_text, log_text, cancelled_text}
+use Rattle.mr_rows.specs.Schema.{cancel_text, meta_table, room_table, vector_table, write_log_table, undo_table, booking_table, error_table, log_table, cancelled_table, cancel_table}
 use Rattle.mr_rows.specs.Form.{Form, meta_form, room_form, vector_form, log_form, booking_form, error_form, cancelled_form, cancel_form}
 use Rattle.mr_rows.specs.Database.{IsHeld, IsTablesStep, first_meta, in_order, tables_in}
 use Rattle.mr_rows.proofs.FormLemmas.{went, same_value}
 use Rattle.mr_rows.proofs.StepLemmas.{clean_before}
 use Rattle.mr_first.specs.FirstDatabase.{IsFirst, first_in}
 use Rattle.mr_first.specs.MoveUpSteps.{IsExtended, IsEmptied, laid_out}
-use Rattle.mr_first.specs.TableTexts.{MakesTable, MakesTables}
+use Rattle.mr_first.specs.TableTexts.{MakesTable, MakesSchema}
 
 -- a text that makes a table, run inside a transaction, makes it beside the others
 makes : (schema : Schema) (text : List ℕ) (table : Table) (old new : State) (count : ℕ) → MakesTable schema text table → old.now.schema ≡ schema → ExecutesInside 0 text [] old new (Ok count)
@@ -70,8 +71,8 @@ extends_then first second third a b c x y =
 
 -- some tables were made, and the texts that are left make the others
 abbrev pub IsUnderWay : State → State → List (List ℕ) → List (List ℕ) → Type 0
-IsUnderWay first now texts left = (before after : Schema) → MakesTables before texts after → HasCleanDisk now → IsTrue first.in_transaction → first.now.schema ≡ before
-    → (middle : Schema) × MakesTables middle left after × IsExtended before middle first now
+IsUnderWay first now texts left = (before after : Schema) → MakesSchema before texts after → HasCleanDisk now → IsTrue first.in_transaction → first.now.schema ≡ before
+    → (middle : Schema) × MakesSchema middle left after × IsExtended before middle first now
 
 -- before the first text
 pub begins : (first : State) (texts : List (List ℕ)) → IsUnderWay first first texts texts
@@ -94,12 +95,27 @@ goes_on first now next texts left text count way s ran before after make clean w
 
 -- ---- the two schemas: what the prover computes of each text
 
-pub first_made : MakesTables no_schema (meta_text ∷ room_text ∷ vector_text ∷ write_log_text ∷ undo_text ∷ booking_text ∷ error_text ∷ []) first_schema
+pub first_made : MakesSchema no_schema (meta_text ∷ room_text ∷ vector_text ∷ write_log_text ∷ undo_text ∷ booking_text ∷ error_text ∷ []) first_schema
 unfolding understood everything
-first_made =
-    (meta_table, (refl, (refl, refl), refl, refl, refl), (room_table, (refl, (refl, refl), refl, refl, refl), (vector_table, (refl, (refl, refl), refl, refl, refl), (write_log_table, (refl, (refl, refl), refl, refl, refl), (undo_table, (refl, (refl, refl), refl, refl, refl), (booking_table, (refl, (refl, refl), refl, refl, refl), (error_table, (refl, (refl, refl), refl, refl, refl), refl)))))))
+first_made = (
+  meta_table,
+  (refl, (refl, refl), refl, refl, refl),
+  (
+    room_table,
+    (refl, (refl, refl), refl, refl, refl),
+    (
+      vector_table,
+      (refl, (refl, refl), refl, refl, refl),
+      (
+        write_log_table,
+        (refl, (refl, refl), refl, refl, refl),
+        (undo_table, (refl, (refl, refl), refl, refl, refl), (booking_table, (refl, (refl, refl), refl, refl, refl), (error_table, (refl, (refl, refl), refl, refl, refl), refl))),
+      ),
+    ),
+  ),
+)
 
-pub second_made : MakesTables first_schema (log_text ∷ cancelled_text ∷ cancel_text ∷ []) our_schema
+pub second_made : MakesSchema first_schema (log_text ∷ cancelled_text ∷ cancel_text ∷ []) our_schema
 unfolding understood everything
 second_made =
     (log_table, (refl, (refl, refl), refl, refl, refl), (cancelled_table, (refl, (refl, refl), refl, refl, refl), (cancel_table, (refl, (refl, refl), refl, refl, refl), refl)))
@@ -115,7 +131,8 @@ pub lays_out : (a b c : State) → IsFirst a.now → IsEmptied a b → IsExtende
 unfolding tables_in first_in
 lays_out a b c first e w =
     let rows = w.rows in
-    let own : AllByRecursion (λ (t : Table). c.now.trees t.tree ≡ []) (drop 7 our_schema.tables) = subst (AllByRecursion (λ (t : Table). c.now.trees t.tree ≡ [])) (sym (ap (drop 7) w.beside)) w.empty in
+    let own : AllByRecursion (λ (t : Table). c.now.trees t.tree ≡ []) (drop 7 our_schema.tables) =
+    subst (AllByRecursion (λ (t : Table). c.now.trees t.tree ≡ [])) (sym (ap (drop 7) w.beside)) w.empty in
     let was = first.held in
     let meta = rows.0 ∙ e.meta in
     let room = rows.1.0 ∙ e.room in

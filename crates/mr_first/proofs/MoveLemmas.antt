@@ -31,7 +31,8 @@ module _ (a b c : State) (m : MetaRow) (log : List LogRow) (r : Result (Unit {0}
   applied t u same (Ok y) h = record { kept = h.kept; tables_are = h.tables_are ∙ same }
   applied t u same (Err e) h = tt
 
-  undone : (b.now ≡ a.now) × (b.committed ≡ a.committed) → (q : Result (Unit {0}) Error) → OnErr q ((c.now ≡ b.now) × (c.committed ≡ b.committed)) → OnErr q ((c.now ≡ a.now) × (c.committed ≡ a.committed))
+  undone : (b.now ≡ a.now) × (b.committed ≡ a.committed) → (q : Result (Unit {0}) Error)
+      → OnErr q ((c.now ≡ b.now) × (c.committed ≡ b.committed)) → OnErr q ((c.now ≡ a.now) × (c.committed ≡ a.committed))
   undone same (Ok y) h = tt
   undone same (Err e) h = (h.0 ∙ same.0, h.1 ∙ same.1)
 

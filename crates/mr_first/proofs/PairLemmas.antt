@@ -52,7 +52,8 @@ paired_is ws us trees paired is = joined_is ws us us (subst (λ rows. OneAKey un
 -- ---- pairs one after the other
 
 -- what is at a place of both, of rows of one write each
-pub paired_at : (ws : List WriteRow) (us : List FirstUndoRow) (i : ℕ) (w : WriteRow) (u : FirstUndoRow) → i < length ws → length ws ≡ length us → w ≡ get_or ws i w → u ≡ get_or us i u → ArePaired ws us → write_id w ≡ undo_id u
+pub paired_at : (ws : List WriteRow) (us : List FirstUndoRow) (i : ℕ) (w : WriteRow) (u : FirstUndoRow) → i < length ws
+    → length ws ≡ length us → w ≡ get_or ws i w → u ≡ get_or us i u → ArePaired ws us → write_id w ≡ undo_id u
 paired_at ws us i w u low many at_w at_u same =
     ap write_id at_w ∙ sym (get_or-map write_id ws i w (write_id w) low) ∙ ap (λ ids. get_or ids i (write_id w)) same
     ∙ get_or-map undo_id us i u (write_id w) (omega (arith, low, many)) ∙ ap undo_id (sym at_u)
@@ -62,7 +63,8 @@ taken : {R : Type 0} (key : R → Id) (rows : List R) (i : ℕ) (row : R) → i 
 taken key rows i row low at = ap (map key) (take-suc rows i row low) ∙ map-append key (take i rows) _ ∙ ap (λ r. map key (take i rows) ++ key r ∷ []) (sym at)
 
 -- one pair more
-pub more_paired : (ws : List WriteRow) (us : List FirstUndoRow) (i : ℕ) (w : WriteRow) (u : FirstUndoRow) → i < length ws → length ws ≡ length us → w ≡ get_or ws i w → u ≡ get_or us i u → write_id w ≡ undo_id u
+pub more_paired : (ws : List WriteRow) (us : List FirstUndoRow) (i : ℕ) (w : WriteRow) (u : FirstUndoRow)
+    → i < length ws → length ws ≡ length us → w ≡ get_or ws i w → u ≡ get_or us i u → write_id w ≡ undo_id u
     → ArePaired (take i ws) (take i us) → ArePaired (take (suc i) ws) (take (suc i) us)
 more_paired ws us i w u low many at_w at_u here same = taken write_id ws i w low at_w ∙ (λ j. same j ++ here j ∷ []) ∙ sym (taken undo_id us i u (omega (arith, low, many)) at_u)
 
@@ -87,7 +89,8 @@ replicas_paired t r stands = subst (λ (x : FirstTables). ArePaired x.write_log 
 
 pub put_into_empty : {R K : Type 0} (before : K → K → Bool) (key : R → K) → IsOrder K before → (rows : List R) → InOrder before key rows → put_all before key rows [] ≡ rows
 put_into_empty {R} {K} before key o rows up =
-    in_order_same before key o (put_all before key rows []) rows (ordered_in_order before key o rows) up (λ row h. ordered_has before key o rows row h) (λ row h. has_ordered before key o rows apart row h)
+    in_order_same before key o (put_all before key rows []) rows (ordered_in_order before key o rows) up
+    (λ row h. ordered_has before key o rows row h) (λ row h. has_ordered before key o rows apart row h)
   where
     apart : Apart before key rows
     apart = ascending_weaker (λ x y. before (key x) (key y) ≡ true) (λ x y. key x ≡ key y → ⊥) (λ x y less same. o.irreflexive (key x) (subst (λ k. before (key x) k ≡ true) (sym same) less)) rows up
@@ -111,7 +114,8 @@ unfolding first_in
 writes_in_order trees = ordered_in_order id_before write_id id_order (map write_row_from (trees 6))
 
 -- the first tables with their own row of `meta` and their log are the moved ones
-pub filled_is : (trees : Trees) (m : MetaRow) (log : List LogRow) → m ≡ (first_in trees).meta → log ≡ moved_log (first_in trees).write_log (first_in trees).undo → filled m log (first_in trees) ≡ moved (first_in trees)
+pub filled_is : (trees : Trees) (m : MetaRow) (log : List LogRow) → m ≡ (first_in trees).meta
+    → log ≡ moved_log (first_in trees).write_log (first_in trees).undo → filled m log (first_in trees) ≡ moved (first_in trees)
 filled_is trees m log meta is =
     let t = first_in trees in
     let put : put_all id_before log_id log [] ≡ moved_log t.write_log t.undo =

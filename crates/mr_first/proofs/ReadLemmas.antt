@@ -39,7 +39,8 @@ reads_of_looks old new r P h = (
 pub reads_so : {X : Type 0} (old new : State) (r : Result X Error) (P Q : X → Type 0) → (IsKeptFirst old → (x : X) → P x → Q x) → ReadsFirst old new r P → ReadsFirst old new r Q
 reads_so = told_where IsKeptFirst
 
-pub reads_made : {X Y : Type 0} (old new : State) (x : X) (P : X → Type 0) (r : Result Y Error) (Q : Y → Type 0) → (IsKeptFirst old → P x → IfOk r Q) → ReadsFirst old new (Ok x) P → ReadsFirst old new r Q
+pub reads_made : {X Y : Type 0} (old new : State) (x : X) (P : X → Type 0) (r : Result Y Error) (Q : Y → Type 0)
+    → (IsKeptFirst old → P x → IfOk r Q) → ReadsFirst old new (Ok x) P → ReadsFirst old new r Q
 reads_made = made_where IsKeptFirst
 
 -- ---- what was found of first tables
@@ -66,7 +67,8 @@ AreAll t x =
     (AreRowsOf room_form t x.room × AreRowsOf vector_form t x.vector)
     × ((AreRowsOf write_form t x.write_log × AreRowsOf undo_form t x.undo) × (AreRowsOf booking_form t x.booking × AreRowsOf error_form t x.errorlog))
 
-pub whole_first : (trees : Trees) (t : FirstTables) → AreHeldFirst trees → AreAll trees t → (IsHeld first_meta_form (trees 0) → t.meta ≡ first_meta (in_order first_meta_form (trees 0))) → t ≡ first_in trees
+pub whole_first : (trees : Trees) (t : FirstTables) → AreHeldFirst trees → AreAll trees t
+    → (IsHeld first_meta_form (trees 0) → t.meta ≡ first_meta (in_order first_meta_form (trees 0))) → t ≡ first_in trees
 unfolding first_in
 whole_first trees t held all meta =
     λ i. record {

@@ -17,6 +17,6 @@ MakesTable schema text table =
     × (lacks_sequence (created schema table) ≡ false)
 
 -- texts that make one schema of another, a table each
-abbrev pub MakesTables : Schema → List (List ℕ) → Schema → Type 0
-MakesTables before [] after = before ≡ after
-MakesTables before (text ∷ texts) after = (table : Table) × MakesTable before text table × MakesTables (created before table) texts after
+abbrev pub MakesSchema : Schema → List (List ℕ) → Schema → Type 0
+MakesSchema before [] after = before ≡ after
+MakesSchema before (text ∷ texts) after = (table : Table) × MakesTable before text table × MakesSchema (created before table) texts after

@@ -4,14 +4,14 @@ ghost use Rattle.sqlite.specs.State.{HasCleanDisk, KeepsCommit, Survives};
 ghost use Rattle.sqlite.specs.Held.{state};
 ghost use Rattle.mr_rows.specs.Schema.{no_schema, first_schema, our_schema};
 ghost use Rattle.mr_first.specs.MoveUpSteps.{Extends};
-ghost use Rattle.mr_first.specs.TableTexts.{MakesTables};
+ghost use Rattle.mr_first.specs.TableTexts.{MakesSchema};
 
 use sqlite::{Alter, Error, Transaction};
 
 /// Makes the table of each text, one after the other.
 fn create_tables<S: Alter>(tx: &mut Transaction<'_, S>, texts: &[&str]) -> Result<(), Error>
     ensures same_reference { tx.new.conn.ghost_name ≡ tx.old.conn.ghost_name }
-    ensures extended { (before after : Schema) → MakesTables before (map (λ text. text.now) texts.now) after
+    ensures extended { (before after : Schema) → MakesSchema before (map (λ text. text.now) texts.now) after
         → Extends before after (state S.Store tx.old.conn.now) (state S.Store tx.new.conn.now) result }
     ensures kept { HasCleanDisk (state S.Store tx.new.conn.now) → KeepsCommit (state S.Store tx.old.conn.now) (state S.Store tx.new.conn.now) }
     ensures survives { Survives (state S.Store tx.old.conn.now) (state S.Store tx.new.conn.now) (λ _. ⊥) }

@@ -4,7 +4,7 @@ ghost use Rattle.mr_model.specs.First.{FirstTables};
 ghost use Rattle.mr_rows.specs.Schema.{first_schema};
 ghost use Rattle.mr_rows.specs.TableSteps.{IsTableOf};
 ghost use Rattle.mr_first.specs.FirstDatabase.{AreHeldFirst, first_in};
-ghost use Rattle.mr_first.specs.FirstTables.{room_is, vector_is, write_is, undo_is, booking_is, error_is};
+ghost use Rattle.mr_first.specs.FirstTables.{first_room_is, first_vector_is, write_is, undo_is, first_booking_is, first_error_is};
 
 use crate::rows::{FirstUndoRow, WriteRow};
 use mr_base::RoomName;
@@ -27,7 +27,7 @@ impl FirstRow for RoomName {
 
     ghost with_rows = { λ xs t. record t { room = xs } };
 
-    ghost is_first = { room_is };
+    ghost is_first = { first_room_is };
 
     ghost stands = { inr refl };
 }
@@ -37,7 +37,7 @@ impl FirstRow for VectorRow {
 
     ghost with_rows = { λ xs t. record t { vector = xs } };
 
-    ghost is_first = { vector_is };
+    ghost is_first = { first_vector_is };
 
     ghost stands = { inr refl };
 }
@@ -67,7 +67,7 @@ impl FirstRow for BookingRow {
 
     ghost with_rows = { λ xs t. record t { booking = xs } };
 
-    ghost is_first = { booking_is };
+    ghost is_first = { first_booking_is };
 
     ghost stands = { inr refl };
 }
@@ -77,7 +77,7 @@ impl FirstRow for ErrorRow {
 
     ghost with_rows = { λ xs t. record t { errorlog = xs } };
 
-    ghost is_first = { error_is };
+    ghost is_first = { first_error_is };
 
     ghost stands = { inr refl };
 }

@@ -3,7 +3,7 @@ ghost use Rattle.mr_model.specs.Writes.{Id};
 ghost use Rattle.mr_tables.specs.Change.{id_before};
 ghost use Rattle.mr_tables.specs.TableOrders.{id_order};
 ghost use Rattle.mr_rows.specs.Schema.{first_schema};
-ghost use Rattle.mr_first.specs.FirstMadeRows.{write_of, undo_of, write_made, undo_made};
+ghost use Rattle.mr_first.specs.FirstMadeRows.{write_row_of, first_undo_row_of, write_made, undo_made};
 ghost use Rattle.mr_first.specs.Forms.{write_id, undo_id, write_form, undo_form};
 
 use crate::cells::FirstPlace;
@@ -51,7 +51,7 @@ impl StoredRow for WriteRow {
 
     type Parts = ((((WriteId, Time), RoomName), MeetingCells), Commit);
 
-    ghost of = { write_of };
+    ghost of = { write_row_of };
 
     fn texts() -> RowTexts {
         RowTexts {
@@ -111,7 +111,7 @@ impl StoredRow for FirstUndoRow {
 
     type Parts = (WriteId, FirstPlace);
 
-    ghost of = { undo_of };
+    ghost of = { first_undo_row_of };
 
     fn texts() -> RowTexts {
         RowTexts {

@@ -3,10 +3,9 @@ use Rattle.std.proofs.Common.{◌≡◌, refl, sym, ◌∙◌, subst, ℕ, List,
 use Rattle.std.specs.Prelude.{IsErr}
 use Rattle.std.specs.List.{AllByRecursion}
 use Rattle.mr_model.specs.Texts.{Text}
-use Rattle.mr_model.specs.Exchange.{Batch}
 use Rattle.mr_model.specs.Positions.{Position}
 use Rattle.mr_model.specs.Refusals.{Refusal, OutOfMemory, Store}
-use Rattle.mr_model.specs.Replies.{Reply, PositionIs, BatchIs, Took, Refused}
+use Rattle.mr_model.specs.Replies.{Reply, Took, Refused}
 use Rattle.mr_model.specs.Step.{Command, AskPosition, IsOfMachine, Receive, no_memory, no_store}
 use Rattle.mr_base.specs.declared.batches.Ending.{Ending}
 use Rattle.mr_store.specs.declared.keeper.Keeper.{Ghosts}
@@ -20,6 +19,7 @@ use Rattle.mr_net.specs.declared.ways.Way.TheVariants.{Pull, Push}
 use Rattle.mr_net.specs.declared.ways.Round.{Round}
 use Rattle.mr_net.specs.ExchangeRounds.{ComesTo, IsClient, PullsOnce, PushesOnce, RunsRound}
 use Rattle.mr_net.specs.AskedInTurn.{AreOfExchange, InTurn, IsOfExchange}
+use Rattle.mr_peer.proofs.AskLemmas.{not_batch, not_position}
 
 -- ---- commands of an exchange, in turn
 
@@ -79,14 +79,6 @@ refused_then : (reply : Reply) → IsOfMachine reply → (e : Refusal) × (reply
 refused_then reply no_memory = (OutOfMemory, refl)
 refused_then reply no_store = (Store, refl)
 
--- a position is a reply
-position_heard : (reply : Reply) (p : Position) → reply ≡ PositionIs p → IsOfMachine reply → ⊥
-position_heard reply p is machine = let (e, refused) = refused_then reply machine in let z : Refused e ≡ PositionIs p = sym refused ∙ is in cc
-
--- a batch is one
-batch_heard : (reply : Reply) (b : Batch) → reply ≡ BatchIs b → IsOfMachine reply → ⊥
-batch_heard reply b is machine = let (e, refused) = refused_then reply machine in let z : Refused e ≡ BatchIs b = sym refused ∙ is in cc
-
 -- counts are one
 took_heard : (reply : Reply) (writes commits : ℕ) → reply ≡ Took writes commits → IsOfMachine reply → ⊥
 took_heard reply writes commits is machine = let (e, refused) = refused_then reply machine in let z : Refused e ≡ Took writes commits = sym refused ∙ is in cc
@@ -117,14 +109,14 @@ pulled_asked : {K : Type 0} (k : Ghosts K) (a b : K) (host : Text) (held holds k
     → PullsOnce k a b host held holds known called → Asked k a b
 pulled_asked k a b host held holds known called (m, said, served, inl (fails, same)) = subst (λ x. Asked k a x) (sym same) (one_asked k a m AskPosition said tt served)
 pulled_asked k a b host held holds known called (m, said, served, inr (p, is, sent, took)) =
-    asked_on k a m b (one_heard k a m AskPosition said tt served (position_heard said p is)) (received_asked k m b (IsBodyOf known) TellsBatch called took)
+    asked_on k a m b (one_heard k a m AskPosition said tt served (not_position said p is)) (received_asked k m b (IsBodyOf known) TellsBatch called took)
 
 -- one that went well
 pulled_heard : {K : Type 0} (k : Ghosts K) (a b : K) (host : Text) (held holds known : Option Text) (took : ℕ × ℕ × Ending)
     → PullsOnce k a b host held holds known (Ok took) → Heard k a b
 pulled_heard k a b host held holds known took (m, said, served, inl (fails, same)) = absurd (no_err took fails)
 pulled_heard k a b host held holds known took (m, said, served, inr (p, is, sent, received)) =
-    heard_on k a m b (one_heard k a m AskPosition said tt served (position_heard said p is)) (received_heard k m b (IsBodyOf known) took received)
+    heard_on k a m b (one_heard k a m AskPosition said tt served (not_position said p is)) (received_heard k m b (IsBodyOf known) took received)
 
 -- a push
 pushed_asked : {K : Type 0} (k : Ghosts K) (a b : K) (position : Position) (host : Text) (held holds : Option Text) (called : Result (ℕ × ℕ × Ending) WebFault)
@@ -138,7 +130,7 @@ pushed_heard : {K : Type 0} (k : Ghosts K) (a b : K) (position : Position) (host
 pushed_heard k a b position host held holds took (inl (fails, same)) = absurd (no_err took fails)
 pushed_heard k a b position host held holds took (inr (said, served, inl fails)) = absurd (no_err took fails)
 pushed_heard k a b position host held holds took (inr (said, served, inr (batch, is, sent))) =
-    one_heard k a b (lacking position) said refl served (batch_heard said batch is)
+    one_heard k a b (lacking position) said refl served (not_batch said batch is)
 
 -- a round of either way
 pub round_asked : {K : Type 0} (k : Ghosts K) (way : Way) (a b : K) (result : Result Round WebFault) → RunsRound k way a result b → Asked k a b
@@ -166,7 +158,7 @@ round_heard {K} k Push a b r (inr (position, host, held, holds, known, called, e
 
 -- a position that was sent
 sent_heard : {K : Type 0} (k : Ghosts K) (a m : K) (host : Text) (held holds : Option Text) → SendsPosition k a m host held holds (Ok tt) → Heard k a m
-sent_heard k a m host held holds (said, served, inl (p, is, wrote)) = one_heard k a m AskPosition said tt served (position_heard said p is)
+sent_heard k a m host held holds (said, served, inl (p, is, wrote)) = one_heard k a m AskPosition said tt served (not_position said p is)
 sent_heard k a m host held holds (said, served, inr (nothing, keeps)) = absurd nothing
 
 -- a batch that was asked for
@@ -180,7 +172,7 @@ gave_heard : {K : Type 0} (k : Ghosts K) (a b : K) (position : Position) (host :
     → SendsBatch k a b position host held holds (Ok ending) → Heard k a b
 gave_heard k a b position host held holds ending (inl (fails, same, keeps)) = absurd (let z : ◌≡◌ {A = Result Ending WebFault} (Ok ending) (Err fault.Memory) = fails in cc)
 gave_heard k a b position host held holds ending (inr (said, served, inl (batch, is, wrote, ends))) =
-    one_heard k a b (lacking position) said refl served (batch_heard said batch is)
+    one_heard k a b (lacking position) said refl served (not_batch said batch is)
 gave_heard k a b position host held holds ending (inr (said, served, inr (nothing, keeps))) = absurd nothing
 
 -- a round of either way

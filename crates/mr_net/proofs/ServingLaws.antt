@@ -38,7 +38,8 @@ one_more keeper p m q count last held between holds before next told = record {
 
 -- memory is wanting for a line, or the writer fails
 pub stopped : {K : Type 0} (keeper : Ghosts K) (p m q : K) (count done : ℕ) (last : Option ℕ) (held between holds : Option Text) (status : ℕ) → SoMany keeper p m done held between
-    → done < count → IsConnection keeper m last q → status ≢ 0 → ((status ≡ 0) × Appends between holds (line (connection_text last))) ⊎ StopsWithText (λ text. text ≡ no_memory_line) between holds status
+    → done < count → IsConnection keeper m last q → status ≢ 0
+    → ((status ≡ 0) × Appends between holds (line (connection_text last))) ⊎ StopsWithText (λ text. text ≡ no_memory_line) between holds status
     → TellsServed keeper p q count held holds status
 stopped keeper p m q count done last held between holds status before room next undone (inl told) = absurd (undone told.0)
 stopped {K} keeper p m q count done last held between holds status before room next undone (inr stops) =
@@ -49,7 +50,12 @@ stopped {K} keeper p m q count done last held between holds status before room n
 
     behind : StopsWithText (λ text. text ≡ no_memory_line) between holds status → StopsWithText (λ text. text ≡ connection_lines before.served ++ no_memory_line) held holds status
     behind (inl told) =
-        inl (told.0, connection_lines before.served ++ told.1, ap (λ t. connection_lines before.served ++ t) told.2, Appends-trans held between holds (connection_lines before.served) told.1 before.told told.3)
+        inl (
+          told.0,
+          connection_lines before.served ++ told.1,
+          ap (λ t. connection_lines before.served ++ t) told.2,
+          Appends-trans held between holds (connection_lines before.served) told.1 before.told told.3,
+        )
     behind (inr three) = inr three
 
 -- the next connection can't be taken

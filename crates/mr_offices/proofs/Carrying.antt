@@ -22,11 +22,11 @@ use Rattle.mr_model.proofs.NoGaps.{NoGap, AllGiven, no_gap-take, AllOfMaker, ite
 use Rattle.mr_model.proofs.PositionsReadBack.{position_within, read-position_text}
 use Rattle.mr_model.proofs.WorldFacts.{item_grows, found_server, honest_replica, one_primary, history_of, agrees_of, Grows, grows_trans, found_put}
 use Rattle.mr_model.proofs.WorldPlacing.{Kept, put}
-use Rattle.mr_model.proofs.WorldKnowledge.{delivery_said}
+use Rattle.mr_model.proofs.WorldKnowledge.{delivery_said, said_inj}
 use Rattle.mr_model.proofs.DeliverySteps.{own_item}
 use Rattle.mr_model.proofs.WorldSteps.{made_items}
 use Rattle.mr_model.proofs.CommittedPlaces.{within_later}
-use Rattle.mr_model.proofs.BatchesBring.{front_counted, whole_given, numbered_front, deliver_is, complete_long, has_all}
+use Rattle.mr_model.proofs.BatchesBring.{front_counted, whole_given, numbered_front, deliver_is, complete_long, has_all, made_number}
 use Rattle.mr_model.proofs.UniqueReplay.{some_inj}
 use Rattle.mr_convergence.proofs.Converging.{reaches_trans}
 use Rattle.mr_offices.specs.Offices.{Within, Give, give_at, IsDone, IsNoReply, IsOfficeStep}
@@ -43,22 +43,23 @@ record GivenFor (asked made : World) (from : ℕ) (b : Replica) (m number size :
   is_made : made ≡ record asked { pool = asked.pool ++ batch_text (batch_of maker (position_of b) m) ∷ [] }
   is_given : first_refusal (batch_faults maker (position_of b) m) ≡ None
 
-made_number : (n k m l : ℕ) → Made n k ≡ Made m l → (n ≡ m) × (k ≡ l)
-made_number n k m l e = (cc, cc)
-
-given_for : (asked made : World) (from : ℕ) (b : Replica) (m number size : ℕ) → IsReplica b → IsDone asked (Give from (position_text (position_of b)) m) (Made number size) made → GivenFor asked made from b m number size
+given_for : (asked made : World) (from : ℕ) (b : Replica) (m number size : ℕ) → IsReplica b
+    → IsDone asked (Give from (position_text (position_of b)) m) (Made number size) made → GivenFor asked made from b m number size
 given_for asked made from b m number size sound (ok, e) = go (replica_of asked from) refl (ap (λ (x : WorldAfter). x.reply) e) (ap (λ (x : WorldAfter). x.world) e)
   where
     back : read_position (position_text (position_of b)) ≡ Some (position_of b)
     back = read-position_text (position_of b) (position_within b sound)
 
-    by : (r : Replica) → replica_of asked from ≡ Some r → (o : Option Refusal) → first_refusal (batch_faults r (position_of b) m) ≡ o → Made number size ≡ (with_made asked (batch_unless o (batch_of r (position_of b) m))).reply → made ≡ (with_made asked (batch_unless o (batch_of r (position_of b) m))).world → GivenFor asked made from b m number size
+    by : (r : Replica) → replica_of asked from ≡ Some r → (o : Option Refusal) → first_refusal (batch_faults r (position_of b) m) ≡ o
+        → Made number size ≡ (with_made asked (batch_unless o (batch_of r (position_of b) m))).reply
+        → made ≡ (with_made asked (batch_unless o (batch_of r (position_of b) m))).world → GivenFor asked made from b m number size
     by r er (Some x) eo f g = absurd (let z : Made number size ≡ Said (Refused x) = f in cc)
     by r er None eo f g =
         let n = made_number number size (length asked.pool + 1) (length (batch_text (batch_of r (position_of b) m))) f in
         record { maker = r; is_maker = er; is_number = n.0; is_size = n.1; is_made = g; is_given = eo }
 
-    go : (o : Option Replica) → replica_of asked from ≡ o → Made number size ≡ (give_at asked o (position_text (position_of b)) m).reply → made ≡ (give_at asked o (position_text (position_of b)) m).world → GivenFor asked made from b m number size
+    go : (o : Option Replica) → replica_of asked from ≡ o → Made number size ≡ (give_at asked o (position_text (position_of b)) m).reply
+        → made ≡ (give_at asked o (position_text (position_of b)) m).world → GivenFor asked made from b m number size
     go None eo f g = absurd (let z : Made number size ≡ NoReplica = f in cc)
     go (Some r) eo f g =
         by r eo (first_refusal (batch_faults r (position_of b) m)) refl
@@ -67,7 +68,8 @@ given_for asked made from b m number size sound (ok, e) = go (replica_of asked f
 -- ---- a delivery
 
 -- a prefix of any batch
-pub fronts_said : (old new : World) (number to bytes : ℕ) (heard : Option StepReply) (r : Replica) (text : Text) → IsHonest old → IsOfficeStep old (Within (Deliver number to bytes)) heard new → replica_of old to ≡ Some r → batch_numbered old.pool number ≡ Some text → Hears IsCountOrGap heard
+pub fronts_said : (old new : World) (number to bytes : ℕ) (heard : Option StepReply) (r : Replica) (text : Text) → IsHonest old
+    → IsOfficeStep old (Within (Deliver number to bytes)) heard new → replica_of old to ≡ Some r → batch_numbered old.pool number ≡ Some text → Hears IsCountOrGap heard
 fronts_said old new number to bytes heard r text h (inr (ok, same, none)) er et = inr none
 fronts_said old new number to bytes heard r text h (inl (reply, done, inr none)) er et = inr none
 fronts_said old new number to bytes heard r text h (inl (reply, done, inl is)) er et =
@@ -76,9 +78,6 @@ fronts_said old new number to bytes heard r text h (inl (reply, done, inl is)) e
     go : (said : Reply) → reply ≡ Said said → IsCountOrGap said ⊎ (said ≡ Refused OutOfMemory) → Hears IsCountOrGap heard
     go said e (inl x) = inl (said, is ∙ ap Some e, x)
     go said e (inr x) = inr (inr (Refused OutOfMemory, is ∙ ap Some (e ∙ ap Said x), no_memory))
-
-said_inj : (x y : Reply) → Said x ≡ Said y → x ≡ y
-said_inj x y e = cc
 
 -- counts are no fault of a machine
 took_is_reply : (writes commits : ℕ) → IsNoReply (Some (Said (Took writes commits))) → ⊥
@@ -147,19 +146,23 @@ module _ (start asked made later end : World) (from to number size : ℕ) (heard
       (front_trans d.receiver.commits (commit_list start) (commit_list asked) (honest_replica start to d.receiver h d.is_receiver).one_primary before.1.commits)
 
   -- what the delivery is, where its reply is heard
-  heard_is : (reply : StepReply) → IsDone later (Within (Deliver number to d.bytes)) reply end → ((reply ≡ Said (step q (Receive (take d.bytes (batch_text b)))).reply) × (end ≡ put later (step q (Receive (take d.bytes (batch_text b)))).replica)) ⊎ (reply ≡ Said (Refused OutOfMemory))
+  heard_is : (reply : StepReply) → IsDone later (Within (Deliver number to d.bytes)) reply end
+      → ((reply ≡ Said (step q (Receive (take d.bytes (batch_text b)))).reply) × (end ≡ put later (step q (Receive (take d.bytes (batch_text b)))).replica)) ⊎ (reply ≡ Said (Refused OutOfMemory))
   heard_is reply done = deliver_is later end number to d.bytes reply q (batch_text b) (done.0, inl done.1) then.1 text
 
   counted : (writes : ℕ) × (commits : ℕ) × ((step q (Receive (take d.bytes (batch_text b)))).reply ≡ Took writes commits)
   counted =
-      front_counted (accepted later) (commit_list later) (history_of later after_others.0) q b (record { from = x.maker.server; primary = x.maker.primary }) (agrees_of later to q after_others.0 then.1) is_batch_ refl same_primary of
+      front_counted (accepted later) (commit_list later) (history_of later after_others.0) q b
+      (record { from = x.maker.server; primary = x.maker.primary }) (agrees_of later to q after_others.0 then.1) is_batch_ refl same_primary of
       (λ s. count_of d.receiver s) (length d.receiver.commits) then.2.counts then.2.commit_count d.bytes
       (no_gap-take (λ s. count_of d.receiver s) (length d.receiver.commits) d.max_lines (items_for x.maker (position_of d.receiver)) (AllOfMaker x.maker d.receiver maker_own.sound) no_gap)
 
   pub front_taken : Hears IsCount heard
   front_taken = go d.delivery
     where
-      said : (reply : StepReply) → heard ≡ Some reply → ((reply ≡ Said (step q (Receive (take d.bytes (batch_text b)))).reply) × (end ≡ put later (step q (Receive (take d.bytes (batch_text b)))).replica)) ⊎ (reply ≡ Said (Refused OutOfMemory)) → Hears IsCount heard
+      said : (reply : StepReply) → heard ≡ Some reply
+          → ((reply ≡ Said (step q (Receive (take d.bytes (batch_text b)))).reply) × (end ≡ put later (step q (Receive (take d.bytes (batch_text b)))).replica))
+          ⊎ (reply ≡ Said (Refused OutOfMemory)) → Hears IsCount heard
       said reply is (inl (e, new)) = let (w, c, f) = counted in inl (Took w c, is ∙ ap Some (e ∙ ap Said f), (w, c, refl))
       said reply is (inr e) = inr (inr (Refused OutOfMemory, is ∙ ap Some e, no_memory))
 
@@ -172,10 +175,13 @@ module _ (start asked made later end : World) (from to number size : ℕ) (heard
   taken_is : (writes commits : ℕ) → heard ≡ Some (Said (Took writes commits)) → end ≡ put later (step q (Receive (take d.bytes (batch_text b)))).replica
   taken_is writes commits is = go d.delivery
     where
-      said : (reply : StepReply) → heard ≡ Some reply → ((reply ≡ Said (step q (Receive (take d.bytes (batch_text b)))).reply) × (end ≡ put later (step q (Receive (take d.bytes (batch_text b)))).replica)) ⊎ (reply ≡ Said (Refused OutOfMemory)) → end ≡ put later (step q (Receive (take d.bytes (batch_text b)))).replica
+      said : (reply : StepReply) → heard ≡ Some reply
+          → ((reply ≡ Said (step q (Receive (take d.bytes (batch_text b)))).reply) × (end ≡ put later (step q (Receive (take d.bytes (batch_text b)))).replica))
+          ⊎ (reply ≡ Said (Refused OutOfMemory)) → end ≡ put later (step q (Receive (take d.bytes (batch_text b)))).replica
       said reply e (inl (f, new)) = new
       said reply e (inr f) =
-          let z : Took writes commits ≡ Refused OutOfMemory = said_inj (Took writes commits) (Refused OutOfMemory) (some_inj (Said (Took writes commits)) (Said (Refused OutOfMemory)) (sym is ∙ e ∙ ap Some f)) in
+          let z : Took writes commits ≡ Refused OutOfMemory =
+          said_inj (Took writes commits) (Refused OutOfMemory) (some_inj (Said (Took writes commits)) (Said (Refused OutOfMemory)) (sym is ∙ e ∙ ap Some f)) in
           absurd (cc)
 
       go : IsOfficeStep later (Within (Deliver number to d.bytes)) heard end → end ≡ put later (step q (Receive (take d.bytes (batch_text b)))).replica
@@ -183,9 +189,11 @@ module _ (start asked made later end : World) (from to number size : ℕ) (heard
       go (inl (reply, done, inr none)) = absurd (took_is_reply writes commits (subst IsNoReply is none))
       go (inl (reply, done, inl e)) = said reply e (heard_is reply done)
 
-  whole_given_ : size ≤ d.bytes → IsComplete made number → AllGiven (accepted later) (commit_list later) q (step q (Receive (take d.bytes (batch_text b)))).replica (AllOfMaker x.maker d.receiver maker_own.sound)
+  whole_given_ : size ≤ d.bytes → IsComplete made number
+      → AllGiven (accepted later) (commit_list later) q (step q (Receive (take d.bytes (batch_text b)))).replica (AllOfMaker x.maker d.receiver maker_own.sound)
   whole_given_ whole complete =
-      whole_given (accepted later) (commit_list later) (history_of later after_others.0) q b (record { from = x.maker.server; primary = x.maker.primary }) (agrees_of later to q after_others.0 then.1) is_batch_ refl same_primary of
+      whole_given (accepted later) (commit_list later) (history_of later after_others.0) q b
+      (record { from = x.maker.server; primary = x.maker.primary }) (agrees_of later to q after_others.0 then.1) is_batch_ refl same_primary of
       (λ s. count_of d.receiver s) (length d.receiver.commits) then.2.counts then.2.commit_count d.bytes (AllOfMaker x.maker d.receiver maker_own.sound) (subst (λ n. n ≤ d.bytes) x.is_size whole)
       (subst (λ ys. NoGap (λ s. count_of d.receiver s) (length d.receiver.commits) ys (AllOfMaker x.maker d.receiver maker_own.sound)) (sym all) no_gap)
     where
@@ -199,7 +207,8 @@ module _ (start asked made later end : World) (from to number size : ℕ) (heard
       all : b.items ≡ items_for x.maker (position_of d.receiver)
       all = take_all d.max_lines (items_for x.maker (position_of d.receiver)) (complete_long (items_for x.maker (position_of d.receiver)) d.max_lines ends)
 
-  pub carried_brings : (writes commits : ℕ) (maker : Replica) → heard ≡ Some (Said (Took writes commits)) → size ≤ d.bytes → IsComplete made number → replica_of asked from ≡ Some maker → (r : Replica) × (replica_of end to ≡ Some r) × HasAllOf r maker
+  pub carried_brings : (writes commits : ℕ) (maker : Replica) → heard ≡ Some (Said (Took writes commits)) → size ≤ d.bytes
+      → IsComplete made number → replica_of asked from ≡ Some maker → (r : Replica) × (replica_of end to ≡ Some r) × HasAllOf r maker
   carried_brings writes commits maker is whole complete em =
       let given = whole_given_ whole complete in
       let r = (step q (Receive (take d.bytes (batch_text b)))).replica in
@@ -213,6 +222,8 @@ module _ (start asked made later end : World) (from to number size : ℕ) (heard
       )
 
 -- knowledge is handed on so
-pub carried_hand_on : (old start asked made later end : World) (s from to number size writes commits : ℕ) → IsHonest start → KnowledgeReaches old asked s from → (d : IsCarried start asked made later end from to number size (Some (Said (Took writes commits)))) → size ≤ d.bytes → IsComplete made number → KnowledgeReaches old end s to
+pub carried_hand_on : (old start asked made later end : World) (s from to number size writes commits : ℕ) → IsHonest start → KnowledgeReaches old asked s from
+    → (d : IsCarried start asked made later end from to number size (Some (Said (Took writes commits)))) → size ≤ d.bytes → IsComplete made number → KnowledgeReaches old end s to
 carried_hand_on old start asked made later end s from to number size writes commits h reach d whole complete =
-    reaches_trans old asked end s from to reach (λ maker em. carried_brings start asked made later end from to number size (Some (Said (Took writes commits))) h d writes commits maker refl whole complete em)
+    reaches_trans old asked end s from to reach
+    (λ maker em. carried_brings start asked made later end from to number size (Some (Said (Took writes commits))) h d writes commits maker refl whole complete em)

@@ -54,7 +54,8 @@ office_leaves old new act heard h none (inr (ok, same, x)) = subst (λ v. Leaves
 
 -- ---- runs
 
-accepts_same : {old new : World} {acts : List Act} {heard : List (Option StepReply)} → IsHonest old → IsOfficeRun old acts heard new → AllByRecursion ActAcceptsNothing acts → (s : ℕ) → accepted new s ≡ accepted old s
+accepts_same : {old new : World} {acts : List Act} {heard : List (Option StepReply)} → IsHonest old
+    → IsOfficeRun old acts heard new → AllByRecursion ActAcceptsNothing acts → (s : ℕ) → accepted new s ≡ accepted old s
 accepts_same h ended all t = refl
 accepts_same h (stepped {old = a} {middle = m} {act = act} {heard = x} st rest) all t =
     accepts_same (office_step_kept a m act x h st).0 rest all.1 t ∙ (office_leaves a m act x h all.0 st).accepts t
@@ -72,7 +73,8 @@ quiet_run_same h (stepped {old = a} {middle = m} {new = b} {act = act} {heard = 
 
 -- ---- knowledge that reaches
 
-pub reached_stays : (before old new after : World) (acts acts_after : List Act) (heard heard_after : List (Option StepReply)) (s t : ℕ) → IsHonest before → IsOfficeRun before acts heard old → KnowledgeReaches old new s t → IsHonest new → IsOfficeRun new acts_after heard_after after → KnowledgeReaches before after s t
+pub reached_stays : (before old new after : World) (acts acts_after : List Act) (heard heard_after : List (Option StepReply)) (s t : ℕ) → IsHonest before
+    → IsOfficeRun before acts heard old → KnowledgeReaches old new s t → IsHonest new → IsOfficeRun new acts_after heard_after after → KnowledgeReaches before after s t
 reached_stays before old new after acts acts_after heard heard_after s t h run reach hn run_after =
     reaches_trans before old after s s t (reaches_itself before old s h (office_run_kept h run))
     (reaches_trans old new after s t t reach (reaches_itself new after t hn (office_run_kept hn run_after)))
@@ -91,7 +93,8 @@ knows_all old new t r h kept same reach e =
     few : (s : ℕ) (a : Replica) → replica_of old s ≡ Some a → length a.commits ≤ length r.commits
     few s a ea = let (b, eb, x) = reach s a ea in front_length a.commits r.commits (subst (λ y. HasAllOf y a) (some_inj b r (sym eb ∙ e)) x).commits
 
-pub offices_converge : (old new : World) (s t : ℕ) (a b : Replica) → IsHonest old → IsOfficeRunOf IsQuietAct old new → EachReachesEach old new → replica_of new s ≡ Some a → replica_of new t ≡ Some b → AreAlike a b
+pub offices_converge : (old new : World) (s t : ℕ) (a b : Replica) → IsHonest old → IsOfficeRunOf IsQuietAct old new
+    → EachReachesEach old new → replica_of new s ≡ Some a → replica_of new t ≡ Some b → AreAlike a b
 offices_converge old new s t a b h c each ea eb =
     let kept = of_kept old new h c in
     let same = quiet_run_same h c.run c.all_allowed in
@@ -101,7 +104,8 @@ offices_converge old new s t a b h c each ea eb =
 pub mutual_alike : (w : World) (s t : ℕ) (a b : Replica) → IsHonest w → replica_of w s ≡ Some a → replica_of w t ≡ Some b → HasAllOf a b → HasAllOf b a → AreAlike a b
 mutual_alike w s t a b h ea eb from_b from_a =
     alike_known a b own_a.sound own_b.sound
-    (λ u. front_equal (writes_of u a.known) (writes_of u b.known) (front_compare (writes_of u a.known) (writes_of u b.known) (accepted w u) (own_a.writes_accepted u) (own_b.writes_accepted u) (has_counts a b own_a.sound own_b.sound from_a u)) (has_counts b a own_b.sound own_a.sound from_b u))
+    (λ u. front_equal (writes_of u a.known) (writes_of u b.known) (front_compare (writes_of u a.known) (writes_of u b.known) (accepted w u)
+    (own_a.writes_accepted u) (own_b.writes_accepted u) (has_counts a b own_a.sound own_b.sound from_a u)) (has_counts b a own_b.sound own_a.sound from_b u))
     (front_equal a.commits b.commits from_a.commits (front_length b.commits a.commits from_b.commits))
   where
     own_a : IsHonestReplica w a
@@ -116,7 +120,8 @@ calm_act : (w : World) (act : Act) → IsHonest w → IsCommitted w → IsCalmAc
 calm_act w (Within s) h c = committed_calm w s h c
 calm_act w (Give from position m) h c = tt
 
-committed_run : {old new : World} {acts : List Act} {heard : List (Option StepReply)} → IsHonest old → IsCommitted old → IsOfficeRun old acts heard new → AllByRecursion ActAcceptsNothing acts → Same old new × IsCommitted new
+committed_run : {old new : World} {acts : List Act} {heard : List (Option StepReply)} → IsHonest old → IsCommitted old
+    → IsOfficeRun old acts heard new → AllByRecursion ActAcceptsNothing acts → Same old new × IsCommitted new
 committed_run {old = old} h c ended all = (same_refl old, c)
 committed_run h c (stepped {old = a} {middle = m} {new = b} {act = act} {heard = x} st rest) all =
     let kept = office_step_kept a m act x h st in
@@ -175,8 +180,10 @@ module _ (old one two new : World) (h : IsHonest old) (x : IsOfficeSettling old 
   all_known : (t : ℕ) (r : Replica) → replica_of new t ≡ Some r → KnowsAll new r
   all_known t r e =
       record {
-        writes = λ s. front_equal (writes_of s r.known) (accepted new s) (own.writes_accepted s) (subst (λ ws. length ws ≤ count_of r s) (knows_two.writes s ∙ sym (after.0.accepts s)) (has_counts committed_all r sound own.sound given s));
-        commits = front_equal r.commits (commit_list new) own.one_primary (subst (λ ids. length ids ≤ length r.commits) (knows_two.commits ∙ sym after.0.commits) (front_length committed_all.commits r.commits given.commits));
+        writes = λ s. front_equal (writes_of s r.known) (accepted new s) (own.writes_accepted s)
+            (subst (λ ws. length ws ≤ count_of r s) (knows_two.writes s ∙ sym (after.0.accepts s)) (has_counts committed_all r sound own.sound given s));
+        commits = front_equal r.commits (commit_list new) own.one_primary
+            (subst (λ ids. length ids ≤ length r.commits) (knows_two.commits ∙ sym after.0.commits) (front_length committed_all.commits r.commits given.commits));
       }
     where
       own : IsHonestReplica new r
@@ -197,7 +204,8 @@ module _ (old one two new : World) (h : IsHonest old) (x : IsOfficeSettling old 
   pub settles : (t : ℕ) (r : Replica) → replica_of new t ≡ Some r → HasAllCommitted r × KnowsAll new r
   settles t r e = (settled_by r (none_left t r e), all_known t r e)
 
-  pub settled_stay : (later : World) (s : ℕ) (a b : Replica) → IsOfficeRunOf ActAcceptsNothing new later → replica_of new s ≡ Some a → replica_of later s ≡ Some b → HasAllCommitted b × KnowsAll later b × AreAlike a b
+  pub settled_stay : (later : World) (s : ℕ) (a b : Replica) → IsOfficeRunOf ActAcceptsNothing new later
+      → replica_of new s ≡ Some a → replica_of later s ≡ Some b → HasAllCommitted b × KnowsAll later b × AreAlike a b
   settled_stay later s a b c ea eb =
       let same = (committed_run honest_new after.1 c.run c.all_allowed).0 in
       let (all, like) = same_stays new later s a b honest_new (of_kept new later honest_new c) same ea eb (all_known s a ea) in

@@ -13,7 +13,7 @@ use Rattle.mr_model.specs.Tables.{Tables, Stands}
 use Rattle.mr_model.specs.World.{World, empty_world, Add, Do, Deliver, StepReply, Added, Made, Said, batch_numbered}
 use Rattle.mr_model.specs.Honest.{IsHonest}
 use Rattle.mr_offices.specs.Offices.{Act, Within, Give, act_after, IsOfficeStep, IsOfficeRun}
-use Rattle.mr_offices.specs.OfficeLaws.{KeepsHistory, KeepsPlaces}
+use Rattle.mr_offices.specs.OfficeLaws.{KeepsOfficeHistory, KeepsOfficePlaces}
 use Rattle.mr_offices.specs.Standing.{Sight, LeavesAlone, Office, Offices, StandFor}
 
 -- ---- commands
@@ -195,4 +195,4 @@ OrganisationsAreLawful {K} sight =
     (v last : Offices K) (before between : List Act) (heard_before heard_between : List (Option StepReply))
     → AreHappenings sight no_offices before heard_before v → AreHappenings sight v between heard_between last
     → (w : World) × (end : World) × IsOfficeRun empty_world before heard_before w × IsOfficeRun w between heard_between end
-    × IsHonest w × IsHonest end × StandFor sight v w × StandFor sight last end × KeepsHistory w end × KeepsPlaces w end
+    × IsHonest w × IsHonest end × StandFor sight v w × StandFor sight last end × KeepsOfficeHistory w end × KeepsOfficePlaces w end

@@ -59,7 +59,7 @@ GivingIsMaking =
 
 -- ---- (1): what is known was accepted, what is committed the primary committed, and both stay
 
-pub record KeepsHistory (old new : World) : Type 0 where
+pub record KeepsOfficeHistory (old new : World) : Type 0 where
   pub writes : (at : ℕ) (r : Replica) (server : ℕ) → replica_of new at ≡ Some r → IsFront (writes_of server r.known) (accepted new server)
   pub commits : (at : ℕ) (r : Replica) → replica_of new at ≡ Some r → IsFront r.commits (commit_list new)
   pub writes_anywhere : (write : Write) → IsKnownIn new write → Contains (accepted new write.stamp.server) write
@@ -73,7 +73,7 @@ pub record KeepsHistory (old new : World) : Type 0 where
 
 abbrev pub OfficesKeepHistory : Type 0
 OfficesKeepHistory =
-    (old new : World) (acts : List Act) (heard : List (Option StepReply)) → IsHonest old → IsOfficeRun old acts heard new → KeepsHistory old new
+    (old new : World) (acts : List Act) (heard : List (Option StepReply)) → IsHonest old → IsOfficeRun old acts heard new → KeepsOfficeHistory old new
 
 -- ---- (2) and (3): batches
 
@@ -130,7 +130,7 @@ MutualKnowledgeIsAlike =
 
 -- ---- (5): places
 
-pub record KeepsPlaces (old new : World) : Type 0 where
+pub record KeepsOfficePlaces (old new : World) : Type 0 where
   pub told : (at : ℕ) (r : Replica) (w : Write) → replica_of new at ≡ Some r → Contains r.known w → is_committed r (id_of w) ≡ true
       → (told : Placed) × TellsCommitted r w.room (id_of w) told × (told.write ≡ w)
   pub agree : (s t : ℕ) (a b : Replica) (room : Text) (id : Id) (x y : Placed)
@@ -140,7 +140,7 @@ pub record KeepsPlaces (old new : World) : Type 0 where
 
 abbrev pub OfficesKeepPlaces : Type 0
 OfficesKeepPlaces =
-    (old new : World) (acts : List Act) (heard : List (Option StepReply)) → IsHonest old → IsOfficeRun old acts heard new → KeepsPlaces old new
+    (old new : World) (acts : List Act) (heard : List (Option StepReply)) → IsHonest old → IsOfficeRun old acts heard new → KeepsOfficePlaces old new
 
 -- ---- (6): the primary
 

@@ -69,10 +69,12 @@ module _ (a b : Replica) (items : List Item) (m : BatchMoves a b items) (sound :
       pub places : map (λ u. u.place) (undo_rows_of (board_left a items board) (again a items m.news b)) ≡ map (place_of b) (again a items m.news b)
       pub has : (room : Text) → mine room ≡ true → PartHas (see room) given (of_room room (order_of b)) (board_anew board)
 
-    pub shows_anew : (see : Text → Option Row → Option Row) (given : Option Row → Option Row) (board : Rows) → IsView see given → IsInOrder board → ((room : Text) → mine room ≡ true → PartHas (see room) given (of_room room (order_of a)) board) → ShowsAnew see given board
+    pub shows_anew : (see : Text → Option Row → Option Row) (given : Option Row → Option Row) (board : Rows) → IsView see given → IsInOrder board
+        → ((room : Text) → mine room ≡ true → PartHas (see room) given (of_room room (order_of a)) board) → ShowsAnew see given board
     shows_anew see given board v ordered has =
         let front = λ (room : Text). (m.rooms room).front in
-        let left = rows-undone a mine front (moving a items a) last_moving see given v board ordered (λ room t. subst (λ (ws : List Write). PartHas (see room) given ws board) (m.rooms room).was (has room t)) in
+        let left = rows-undone a mine front (moving a items a) last_moving see given v board ordered
+        (λ room t. subst (λ (ws : List Write). PartHas (see room) given ws board) (m.rooms room).was (has room t)) in
         let done = rows-executed b mine front (again a items m.news b) last_anew see given v (board_left a items board) left.1 left.0 in
         record {
           places = done.0;

@@ -27,7 +27,8 @@ module _ (a b : Replica) (items : List Item) (m : BatchMoves a b items) (sound :
       order_numbers b (n + i) w m.sound there ∙ (let at : 1 + (n + i) ≡ length a.commits + 1 + i = omega (arith, long) in ap (seq_on (length b.commits)) at)
 
   -- the new commits, and tentative writes behind them
-  pub behind_numbered : (rest : List Write) → ((w : Write) → Has w rest → Has w (tentative b)) → (i : ℕ) (w : Write) → slice_get (m.news ++ rest) i ≡ Some w → seq_of b w ≡ seq_on (length b.commits) (length a.commits + 1 + i)
+  pub behind_numbered : (rest : List Write) → ((w : Write) → Has w rest → Has w (tentative b)) → (i : ℕ) (w : Write)
+      → slice_get (m.news ++ rest) i ≡ Some w → seq_of b w ≡ seq_on (length b.commits) (length a.commits + 1 + i)
   behind_numbered rest open_ i w e = go (le_or_lt (suc i) (length m.news))
     where
       go : (suc i ≤ length m.news) ⊎ (length m.news < suc i) → seq_of b w ≡ seq_on (length b.commits) (length a.commits + 1 + i)

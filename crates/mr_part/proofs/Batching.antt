@@ -1,5 +1,6 @@
 -- The items of a batch that is made.
-use Rattle.std.proofs.Common.{◌≡◌, ℕ, zero, suc, ◌+◌, ◌-◌, ◌<◌, ◌≤◌, ◌==◌, min, nat_lt, not, Bool, true, false, cond, List, [], ◌∷◌, ◌++◌, length, get_or, map, take, drop, Some, ap, refl, sym, ◌∙◌, subst, append_assoc, append-nil, ◌⊎◌, ◌&&◌, inl, inr, arith}
+use Rattle.std.proofs.Common.{◌≡◌, ℕ, zero, suc, ◌+◌, ◌-◌, ◌<◌, ◌≤◌, ◌==◌, min, nat_lt, not, Bool, true, false, cond, List, [], ◌∷◌, ◌++◌, length}
+use Rattle.std.proofs.Common.{get_or, map, take, drop, Some, ap, refl, sym, ◌∙◌, subst, append_assoc, append-nil, ◌⊎◌, ◌&&◌, inl, inr, arith}
 use Rattle.std.specs.Prelude.{flat_map}
 use Rattle.std.specs.List.{filter_map, cons_option, enumerate_from, list_any, list_all}
 use Rattle.std.proofs.lemmas.Bool.{true≢false, or_cases}
@@ -34,14 +35,16 @@ use Rattle.mr_part.specs.Answering.{reply_with}
 use Rattle.mr_part.specs.Outgoing.{Offers, committed_items, lacked_items, ending_by}
 
 -- one item more, where there is room
-pub Offers-more : (limit : ℕ) (items : List model.Item) (there new : List Item) (more : Bool) (x : Item) (y : model.Item) → Offers limit items there more → length there < limit → new ≡ there ++ x ∷ [] → item_of x ≡ y → Offers limit (items ++ y ∷ []) new more
+pub Offers-more : (limit : ℕ) (items : List model.Item) (there new : List Item) (more : Bool) (x : Item) (y : model.Item)
+    → Offers limit items there more → length there < limit → new ≡ there ++ x ∷ [] → item_of x ≡ y → Offers limit (items ++ y ∷ []) new more
 Offers-more limit items there new more x y o room e same =
     let size : length there ≡ min limit (length items) = sym (length-map there item_of) ∙ ap length o.first ∙ length-take limit items in
     let short : length items < limit = omega arith in
     let all : map item_of there ≡ items = o.first ∙ take_all limit items (let s : length items ≤ limit = omega arith in s) in
     let longer = length-append items (y ∷ []) in
     record {
-      first = ap (map item_of) e ∙ map-append item_of there (x ∷ []) ∙ (λ t. all t ++ same t ∷ []) ∙ sym (take_all limit (items ++ y ∷ []) (let s : length (items ++ y ∷ []) ≤ limit = omega arith in s));
+      first = ap (map item_of) e ∙ map-append item_of there (x ∷ []) ∙ (λ t. all t ++ same t ∷ [])
+          ∙ sym (take_all limit (items ++ y ∷ []) (let s : length (items ++ y ∷ []) ≤ limit = omega arith in s));
       rest = o.rest ∙ not_above limit (length items) (length (items ++ y ∷ [])) (let s : length items ≤ limit = omega arith in s) (let s : length (items ++ y ∷ []) ≤ limit = omega arith in s);
     }
   where
@@ -68,7 +71,8 @@ rows_parted : (rows : List KeptRow) (k : ℕ) → row_writes (take k rows) ++ ro
 rows_parted rows k = sym (map-append (λ (y : KeptRow). y.write) (take k rows) (drop k rows)) ∙ ap row_writes (take-append-drop k rows)
 
 -- where there is one more already, those that follow are more
-pub lacked_full : (limit : ℕ) (p : Position) (items : List model.Item) (rows : List KeptRow) (k : ℕ) (there : List Item) (more : Bool) → Offers limit (items ++ lacked_items p (row_writes (take k rows))) there more → more ≡ true
+pub lacked_full : (limit : ℕ) (p : Position) (items : List model.Item) (rows : List KeptRow) (k : ℕ) (there : List Item) (more : Bool)
+    → Offers limit (items ++ lacked_items p (row_writes (take k rows))) there more → more ≡ true
     → Offers limit (items ++ lacked_items p (row_writes rows)) there more
 lacked_full limit p items rows k there more o full =
     let front = lacked_items p (row_writes (take k rows)) in
@@ -81,14 +85,16 @@ lacked_full limit p items rows k there more o full =
 pub row_more : (rows : List KeptRow) (k : ℕ) (x : KeptRow) → k < length rows → x ≡ get_or rows k x → row_writes (take k rows) ++ x.write ∷ [] ≡ row_writes (take (k + 1) rows)
 row_more rows k x low is = ap (λ (y : KeptRow). row_writes (take k rows) ++ y.write ∷ []) is ∙ sym (map_more (λ (y : KeptRow). y.write) rows k x low)
 
-pub committed_items-more : (p : Position) (seq : ℕ) (ws : List Write) (w : Write) → committed_items p seq (ws ++ w ∷ []) ≡ committed_items p seq ws ++ (item_if_lacked p (Some w) ++ model.C (seq + length ws) (id_of w) ∷ [])
+pub committed_items-more : (p : Position) (seq : ℕ) (ws : List Write) (w : Write)
+    → committed_items p seq (ws ++ w ∷ []) ≡ committed_items p seq ws ++ (item_if_lacked p (Some w) ++ model.C (seq + length ws) (id_of w) ∷ [])
 committed_items-more p seq [] w = append-nil (item_if_lacked p (Some w) ++ model.C seq (id_of w) ∷ []) ∙ ap (λ n. item_if_lacked p (Some w) ++ model.C n (id_of w) ∷ []) (same seq)
   where
     same : (n : ℕ) → n ≡ n + 0
     same n = omega arith
 committed_items-more p seq (v ∷ vs) w =
     let n : seq + 1 + length vs ≡ seq + suc (length vs) = omega arith in
-    ap (λ xs. (item_if_lacked p (Some v) ++ model.C seq (id_of v) ∷ []) ++ xs) (committed_items-more p (seq + 1) vs w ∙ ap (λ m. committed_items p (seq + 1) vs ++ (item_if_lacked p (Some w) ++ model.C m (id_of w) ∷ [])) n)
+    ap (λ xs. (item_if_lacked p (Some v) ++ model.C seq (id_of v) ∷ []) ++ xs)
+    (committed_items-more p (seq + 1) vs w ∙ ap (λ m. committed_items p (seq + 1) vs ++ (item_if_lacked p (Some w) ++ model.C m (id_of w) ∷ [])) n)
     ∙ sym (append_assoc (item_if_lacked p (Some v) ++ model.C seq (id_of v) ∷ []) (committed_items p (seq + 1) vs) (item_if_lacked p (Some w) ++ model.C (seq + suc (length vs)) (id_of w) ∷ []))
 
 committed_items-append : (p : Position) (seq : ℕ) (ws vs : List Write) → committed_items p seq (ws ++ vs) ≡ committed_items p seq ws ++ committed_items p (seq + length ws) vs
@@ -101,7 +107,8 @@ committed_items-append p seq (w ∷ ws) vs =
     ap (λ xs. (item_if_lacked p (Some w) ++ model.C seq (id_of w) ∷ []) ++ xs) (committed_items-append p (seq + 1) ws vs ∙ ap (λ m. committed_items p (seq + 1) ws ++ committed_items p m vs) n)
     ∙ sym (append_assoc (item_if_lacked p (Some w) ++ model.C seq (id_of w) ∷ []) (committed_items p (seq + 1) ws) (committed_items p (seq + suc (length ws)) vs))
 
-pub committed_full : (limit : ℕ) (p : Position) (first : ℕ) (items : List model.Item) (rows : List KeptRow) (k : ℕ) (there : List Item) (more : Bool) → Offers limit (items ++ committed_items p first (row_writes (take k rows))) there more → more ≡ true
+pub committed_full : (limit : ℕ) (p : Position) (first : ℕ) (items : List model.Item) (rows : List KeptRow) (k : ℕ) (there : List Item) (more : Bool)
+    → Offers limit (items ++ committed_items p first (row_writes (take k rows))) there more → more ≡ true
     → Offers limit (items ++ committed_items p first (row_writes rows)) there more
 committed_full limit p first items rows k there more o full =
     let ws = row_writes (take k rows) in
@@ -113,7 +120,8 @@ committed_full limit p first items rows k there more o full =
 
 -- ---- those of the definitions
 
-commits-found : (r : Replica) (p : Position) (seq : ℕ) (ids : List Id) → ((id : Id) → Has id ids → (w : Write) × (write_with r id ≡ Some w)) → flat_map (commit_items r p) (enumerate_from seq ids) ≡ committed_items p seq (filter_map (write_with r) ids)
+commits-found : (r : Replica) (p : Position) (seq : ℕ) (ids : List Id) → ((id : Id) → Has id ids → (w : Write) × (write_with r id ≡ Some w))
+    → flat_map (commit_items r p) (enumerate_from seq ids) ≡ committed_items p seq (filter_map (write_with r) ids)
 commits-found r p seq [] found = refl
 commits-found r p seq (id ∷ ids) found =
     let (w, e) = found id (inl refl) in
@@ -125,21 +133,26 @@ tentative-lacked : (p : Position) (ws : List Write) → flat_map (λ w. item_if_
 tentative-lacked p [] = refl
 tentative-lacked p (w ∷ ws) = ap (λ xs. item_if_lacked p (Some w) ++ xs) (tentative-lacked p ws)
 
-drop_found : (r : Replica) (n : ℕ) (ids : List Id) → ((id : Id) → Has id ids → (w : Write) × (write_with r id ≡ Some w)) → filter_map (write_with r) (drop n ids) ≡ drop n (filter_map (write_with r) ids)
+drop_found : (r : Replica) (n : ℕ) (ids : List Id) → ((id : Id) → Has id ids → (w : Write) × (write_with r id ≡ Some w))
+    → filter_map (write_with r) (drop n ids) ≡ drop n (filter_map (write_with r) ids)
 drop_found r zero ids found = refl
 drop_found r (suc n) [] found = refl
 drop_found r (suc n) (id ∷ ids) found =
     let (w, e) = found id (inl refl) in
     drop_found r n ids (λ i h. found i (inr h)) ∙ ap (λ o. drop (suc n) (cons_option o (filter_map (write_with r) ids))) (sym e)
 
-pub items-made : (r : Replica) (p : Position) → IsReplica r → r.dropped ≤ p.commits → items_for r p ≡ committed_items p (p.commits + 1) (drop (p.commits - r.dropped) (kept_committed r)) ++ lacked_items p (tentative r)
+pub items-made : (r : Replica) (p : Position) → IsReplica r → r.dropped ≤ p.commits
+    → items_for r p ≡ committed_items p (p.commits + 1) (drop (p.commits - r.dropped) (kept_committed r)) ++ lacked_items p (tentative r)
 items-made r p sound low =
     let n = p.commits - r.dropped in
     let sum : p.commits ≡ r.dropped + n = omega arith in
-    let all = λ (id : Id) (h : Has id (drop r.dropped r.commits)). commit_found r id sound (subst (Has id) (take-append-drop r.dropped r.commits) (has_right id (take r.dropped r.commits) (drop r.dropped r.commits) h)) in
-    let later = λ (id : Id) (h : Has id (drop n (drop r.dropped r.commits))). all id (subst (Has id) (take-append-drop n (drop r.dropped r.commits)) (has_right id (take n (drop r.dropped r.commits)) (drop n (drop r.dropped r.commits)) h)) in
+    let all = λ (id : Id) (h : Has id (drop r.dropped r.commits)). commit_found r id sound
+    (subst (Has id) (take-append-drop r.dropped r.commits) (has_right id (take r.dropped r.commits) (drop r.dropped r.commits) h)) in
+    let later = λ (id : Id) (h : Has id (drop n (drop r.dropped r.commits))). all id
+    (subst (Has id) (take-append-drop n (drop r.dropped r.commits)) (has_right id (take n (drop r.dropped r.commits)) (drop n (drop r.dropped r.commits)) h)) in
     let ids : drop p.commits r.commits ≡ drop n (drop r.dropped r.commits) = ap (λ m. drop m r.commits) sum ∙ drop-add r.dropped n r.commits in
-    let commits = ap (λ is. flat_map (commit_items r p) (enumerate_from (p.commits + 1) is)) ids ∙ commits-found r p (p.commits + 1) (drop n (drop r.dropped r.commits)) later ∙ ap (committed_items p (p.commits + 1)) (drop_found r n (drop r.dropped r.commits) all) in
+    let commits = ap (λ is. flat_map (commit_items r p) (enumerate_from (p.commits + 1) is)) ids ∙ commits-found r p (p.commits + 1) (drop n (drop r.dropped r.commits)) later
+    ∙ ap (committed_items p (p.commits + 1)) (drop_found r n (drop r.dropped r.commits) all) in
     λ t. commits t ++ tentative-lacked p (tentative r) t
 
 -- ---- what a version of the text can say
@@ -161,7 +174,8 @@ beyond_items v (x ∷ xs) e = go (or_cases (is_beyond v x) (list_any (is_beyond 
     behind true = refl
     behind false = refl
 
-    go : (is_beyond v x ≡ true) ⊎ (list_any (is_beyond v) xs ≡ true) → (list_any (is_beyond v) xs ≡ true → list_all (model.is_item v) xs ≡ false) → (model.is_item v x && list_all (model.is_item v) xs) ≡ false
+    go : (is_beyond v x ≡ true) ⊎ (list_any (is_beyond v) xs ≡ true) → (list_any (is_beyond v) xs ≡ true → list_all (model.is_item v) xs ≡ false)
+        → (model.is_item v x && list_all (model.is_item v) xs) ≡ false
     go (inl f) ih = ap (λ b. b && list_all (model.is_item v) xs) (beyond_item v x f)
     go (inr f) ih = ap (λ b. model.is_item v x && b) (ih f) ∙ behind (model.is_item v x)
 
@@ -171,11 +185,14 @@ items_said a p m sound = go (list_any (is_beyond p.version) (take m (items_for a
   where
     go : (b : Bool) → list_any (is_beyond p.version) (take m (items_for a p)) ≡ b → list_all (model.is_item p.version) (take m (items_for a p)) ≡ not b
     go true e = beyond_items p.version (take m (items_for a p)) e
-    go false e = list_of_all p.version (take m (items_for a p)) (all_map (IsOwn a sound) IsItem (λ x o. o.0) (take m (items_for a p)) (all_take (IsOwn a sound) m (items_for a p) (items_own a sound p))) e
+    go false e = list_of_all p.version (take m (items_for a p))
+        (all_map (IsOwn a sound) IsItem (λ x o. o.0) (take m (items_for a p)) (all_take (IsOwn a sound) m (items_for a p) (items_own a sound p))) e
 
 -- the batch that is made of them in the position's version, or the refusal of one that this version can't say
-pub batch_made : (a : Replica) (p : Position) (m : ℕ) (v : Version) (there : List Item) (more : Bool) → IsReplica a → version_of v ≡ p.version → (p.primary == a.primary) ≡ true → nat_lt p.commits a.dropped ≡ false → Offers m (items_for a p) there more
-    → reply_with BatchIs (ok_if (list_all (model.is_item (version_of v)) (map item_of there)) (base.batch_seen v (Some (record { from = a.server; primary = a.primary })) there (ending_by more)) refusal.NeedsVersion2) ≡ batch_reply a p m
+pub batch_made : (a : Replica) (p : Position) (m : ℕ) (v : Version) (there : List Item) (more : Bool) → IsReplica a
+    → version_of v ≡ p.version → (p.primary == a.primary) ≡ true → nat_lt p.commits a.dropped ≡ false → Offers m (items_for a p) there more
+    → reply_with BatchIs (ok_if (list_all (model.is_item (version_of v)) (map item_of there))
+    (base.batch_seen v (Some (record { from = a.server; primary = a.primary })) there (ending_by more)) refusal.NeedsVersion2) ≡ batch_reply a p m
 batch_made a p m v there more sound version own whole o =
     let e = ending more ∙ ap (λ b. cond b model.More model.Complete) o.rest in
     (λ t. made (list_all (model.is_item (version t)) (o.first t)) (record { version = version t; header = Some (record { from = a.server; primary = a.primary }); items = o.first t; ending = e t }))

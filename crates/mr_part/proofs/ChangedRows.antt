@@ -1,5 +1,6 @@
 -- Of the writes that a batch executes anew, those that get other rows in the log: how they are picked.
-use Rattle.std.proofs.Common.{◌≡◌, ℕ, suc, ◌<◌, ◌≤◌, ◌||◌, ltb, Bool, true, false, cond, List, [], ◌∷◌, ◌++◌, length, get_or, take, drop, map, refl, sym, ap, ◌∙◌, append_assoc, append-nil, arith, eqb-true}
+use Rattle.std.proofs.Common.{◌≡◌, ℕ, suc, ◌<◌, ◌≤◌, ◌||◌, ltb, Bool, true, false, cond, List, [], ◌∷◌, ◌++◌, length}
+use Rattle.std.proofs.Common.{get_or, take, drop, map, refl, sym, ap, ◌∙◌, append_assoc, append-nil, arith, eqb-true}
 use Rattle.std.specs.List.{filter}
 use Rattle.std.proofs.lemmas.Bool.{true≢false}
 use Rattle.std.proofs.lemmas.Bool.Decides.{nat_tests}
@@ -53,16 +54,19 @@ picked_more news test ws w is_changed e = go (ltb (length ws) news) refl ∙ ap 
         ∙ sym (append_assoc (take news ws) (filter test (drop news ws)) (filter test (w ∷ [])))
         ∙ last (test w) (picked news test ws)
 
-rows_more : (place : Write → Place) (is_changed : Bool) (ws : List Write) (w : Write) → cond is_changed (map (undo_with place) ws ++ undo_with place w ∷ []) (map (undo_with place) ws) ≡ map (undo_with place) (cond is_changed (ws ++ w ∷ []) ws)
+rows_more : (place : Write → Place) (is_changed : Bool) (ws : List Write) (w : Write)
+    → cond is_changed (map (undo_with place) ws ++ undo_with place w ∷ []) (map (undo_with place) ws) ≡ map (undo_with place) (cond is_changed (ws ++ w ∷ []) ws)
 rows_more place true ws w = sym (map-append (undo_with place) ws (w ∷ []))
 rows_more place false ws w = refl
 
-pub as_many-more : {A B : Type 0} (is_changed : Bool) (xs : List A) (ys : List B) (x : A) (y : B) → length xs ≡ length ys → length (cond is_changed (xs ++ x ∷ []) xs) ≡ length (cond is_changed (ys ++ y ∷ []) ys)
+pub as_many-more : {A B : Type 0} (is_changed : Bool) (xs : List A) (ys : List B) (x : A) (y : B)
+    → length xs ≡ length ys → length (cond is_changed (xs ++ x ∷ []) xs) ≡ length (cond is_changed (ys ++ y ∷ []) ys)
 as_many-more true xs ys x y e = let m = length-append xs (x ∷ []) in let n = length-append ys (y ∷ []) in omega (arith, m, n, e)
 as_many-more false xs ys x y e = e
 
 -- one write more, and what undoes it
-pub changed_more : (news : ℕ) (test : Write → Bool) (place : Write → Place) (done : List Write) (w : Write) (u : UndoRow) (is_changed : Bool) (writes now : List Write) (us them : List UndoRow) → u ≡ undo_with place w → is_changed ≡ (ltb (length done) news || test w)
+pub changed_more : (news : ℕ) (test : Write → Bool) (place : Write → Place) (done : List Write) (w : Write) (u : UndoRow) (is_changed : Bool)
+    (writes now : List Write) (us them : List UndoRow) → u ≡ undo_with place w → is_changed ≡ (ltb (length done) news || test w)
     → now ≡ cond is_changed (writes ++ w ∷ []) writes → them ≡ cond is_changed (us ++ u ∷ []) us
     → (writes ≡ picked news test done) × (us ≡ map (undo_with place) (picked news test done))
     → (now ≡ picked news test (done ++ w ∷ [])) × (them ≡ map (undo_with place) (picked news test (done ++ w ∷ [])))

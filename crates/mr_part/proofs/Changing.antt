@@ -1,5 +1,6 @@
 -- What each command changes in the tables of a replica.
-use Rattle.std.proofs.Common.{◌≡◌, refl, sym, ap, ◌∙◌, subst, ℕ, zero, suc, ◌+◌, ◌-◌, ◌<◌, ◌≤◌, max, Bool, true, false, not, cond, ◌||◌, eqb, leb, List, [], ◌∷◌, length, map, take, ◌⊎◌, inl, inr, Option, Some, None, arith, le-leb, leb-true, append-nil, length-append}
+use Rattle.std.proofs.Common.{◌≡◌, refl, sym, ap, ◌∙◌, subst, ℕ, zero, suc, ◌+◌, ◌-◌, ◌<◌, ◌≤◌, max, Bool, true, false, not, cond, ◌||◌, eqb, leb, List}
+use Rattle.std.proofs.Common.{[], ◌∷◌, length, map, take, ◌⊎◌, inl, inr, Option, Some, None, arith, le-leb, leb-true, append-nil, length-append}
 use Rattle.std.proofs.lemmas.Bool.{true≢false, and_parts, and_from, cond-true}
 use Rattle.std.proofs.lemmas.List.{length-map}
 use Rattle.std.proofs.lemmas.Slice.Eq.{bytes_eq-Decides}
@@ -33,9 +34,11 @@ use Rattle.mr_tables.specs.ExecutionRows.{seq_on}
 use Rattle.mr_tables.specs.Written.{written, forgotten}
 use Rattle.mr_part.specs.Logged.{undo_with}
 use Rattle.mr_part.specs.Placing.{with_places_put}
-use Rattle.mr_part.proofs.MovedTables.{Bears, Moves, moves, rows_move, rooms_move, without_none}
-use Rattle.mr_part.proofs.OrderNumbers.{has_place, within_commits, behind_commits, kept_numbers}
+use Rattle.mr_part.proofs.MovedTables.{Bears, Moves, moves, rows_move, rooms_move}
+use Rattle.mr_part.proofs.OrderNumbers.{within_commits, behind_commits, kept_numbers}
 use Rattle.mr_part.proofs.RowsPut.{AreNumbered, AreOf, writes_of_rows, write_of_row, put_makes, vector_between, tallies_move}
+use Rattle.mr_model.proofs.Lists.{has_place}
+use Rattle.mr_tables.proofs.Putting.{without_none}
 
 -- at the same place, with the same cancel and the same number, a write has the same row
 pub row_alike : (a b : Replica) (w : Write) → place_of a w ≡ place_of b w → canceller_of a w ≡ canceller_of b w → seq_of a w ≡ seq_of b w → place_row a w ≡ place_row b w
@@ -79,7 +82,8 @@ abbrev with_a_room : Replica → Text → Replica
 with_a_room a room = record a { rooms = with_room room a.rooms }
 
 -- a room more is put, and nothing else changes
-pub room_changes : (a : Replica) (room : Text) → IsReplica a → IsReplica (with_a_room a room) → changed (written (tables_of a).meta (room ∷ []) [] (length a.commits) 1 [] [] []) (tables_of a) ≡ tables_of (with_a_room a room)
+pub room_changes : (a : Replica) (room : Text) → IsReplica a → IsReplica (with_a_room a room)
+    → changed (written (tables_of a).meta (room ∷ []) [] (length a.commits) 1 [] [] []) (tables_of a) ≡ tables_of (with_a_room a room)
 room_changes a room ha hb =
     moves a (with_a_room a room) [] [] (room ∷ []) [] ha hb
     (record { dropped = refl; stays = λ w h. h; logged = λ w h. inr (h, refl, refl); placed = λ w h. inr (h, refl); kept = λ w h. absurd h; known = λ w h. absurd h })
@@ -112,10 +116,13 @@ last_numbered a w c i v e = go (slice_has (w ∷ []) i v e)
 
 -- a write becomes the last of the order: its rows are put, and those that are given of what it takes back
 pub submit_given : (a : Replica) (w : Write) (given : List PlaceRow) → IsReplica a → IsNext a w → clock_of a < w.stamp.time → knows_room a w.room ≡ true → GivesRows a (add_write a w) given
-    → changed (with_places_put (written (tables_of (add_write a w)).meta [] (vector_between a (add_write a w)) (length a.commits) (length a.commits + 1) (w ∷ []) (undo_with (place_of (add_write a w)) w ∷ []) (None ∷ [])) given) (tables_of a) ≡ tables_of (add_write a w)
+    → changed (with_places_put (written (tables_of (add_write a w)).meta [] (vector_between a (add_write a w)) (length a.commits)
+    (length a.commits + 1) (w ∷ []) (undo_with (place_of (add_write a w)) w ∷ []) (None ∷ [])) given) (tables_of a) ≡ tables_of (add_write a w)
 submit_given a w given ha next late known gives =
-    (λ i. changed (with_places_put (written (tables_of b).meta [] (vector_between a b) (length a.commits) (length a.commits + 1) (w ∷ []) (undo_with (place_of b) w ∷ []) (sym c.standing i ∷ [])) given) (tables_of a))
-    ∙ put_makes a b (length a.commits + 1) (canceller_of b) (w ∷ []) given [] (vector_between a b) (omega arith) (last_numbered a w c) (λ v h. refl) ha hb olds moved (sym c.room) (tallies_move a b ha hb moved.stays)
+    (λ i. changed (with_places_put
+    (written (tables_of b).meta [] (vector_between a b) (length a.commits) (length a.commits + 1) (w ∷ []) (undo_with (place_of b) w ∷ []) (sym c.standing i ∷ [])) given) (tables_of a))
+    ∙ put_makes a b (length a.commits + 1) (canceller_of b) (w ∷ []) given [] (vector_between a b) (omega arith)
+    (last_numbered a w c) (λ v h. refl) ha hb olds moved (sym c.room) (tallies_move a b ha hb moved.stays)
   where
     b : Replica
     b = add_write a w
@@ -172,7 +179,8 @@ commit_moves a k ha hb =
       logged = λ w h. other w h (is_among (id_of w) ids) refl;
       placed = λ w h. place w (other w h (is_among (id_of w) ids) refl);
       known = λ w h. (tentative_known a w (taken_has k w (tentative a) h)).0;
-      kept = λ w h. let t = tentative_known a w (taken_has k w (tentative a) h) in (t.0, ap (is_among (id_of w)) (take-front a.dropped a.commits ids ha.dropped_committed) ∙ not_committed_kept a (id_of w) t.1);
+      kept = λ w h. let t = tentative_known a w (taken_has k w (tentative a) h) in
+          (t.0, ap (is_among (id_of w)) (take-front a.dropped a.commits ids ha.dropped_committed) ∙ not_committed_kept a (id_of w) t.1);
     }
   where
     ids : List Id
@@ -188,11 +196,13 @@ commit_moves a k ha hb =
         seq_not 1 a.commits (id_of w) (λ g. true≢false (sym (has_among (id_of w) a.commits g) ∙ t.1))
         ∙ sym (c.other_numbers w (c.marks w ∙ (λ i. t.1 i || e i)))
 
-    place : (w : Write) → Has w (first_tentative a k) ⊎ (Has w a.known × (place_of a w ≡ place_of (after_commit a k) w) × (seq_of a w ≡ seq_of (after_commit a k) w)) → Has w (first_tentative a k) ⊎ (Has w a.known × (place_row a w ≡ place_row (after_commit a k) w))
+    place : (w : Write) → Has w (first_tentative a k) ⊎ (Has w a.known × (place_of a w ≡ place_of (after_commit a k) w) × (seq_of a w ≡ seq_of (after_commit a k) w))
+        → Has w (first_tentative a k) ⊎ (Has w a.known × (place_row a w ≡ place_row (after_commit a k) w))
     place w (inl h) = inl h
     place w (inr (h, p, q)) = inr (h, row_alike a (after_commit a k) w p (sym (c.cancellers w h)) q)
 
-    other : (w : Write) → Has w a.known → (b : Bool) → is_among (id_of w) ids ≡ b → Has w (first_tentative a k) ⊎ (Has w a.known × (place_of a w ≡ place_of (after_commit a k) w) × (seq_of a w ≡ seq_of (after_commit a k) w))
+    other : (w : Write) → Has w a.known → (b : Bool) → is_among (id_of w) ids ≡ b
+        → Has w (first_tentative a k) ⊎ (Has w a.known × (place_of a w ≡ place_of (after_commit a k) w) × (seq_of a w ≡ seq_of (after_commit a k) w))
     other w h true e =
         let (v, g, s) = map_has id_of (id_of w) (first_tentative a k) (among_has (id_of w) ids e) in
         let same : v ≡ w = one_known a v w ha (tentative_known a v (taken_has k v (tentative a) g)).0 h (sym s) in
@@ -205,11 +215,13 @@ map_same f g (x ∷ xs) e = let here = e x (inl refl) in let rest = map_same f g
 
 -- of the first k tentative writes the rows are put with their numbers and marks
 pub commit_changes : (a : Replica) (k : ℕ) → IsReplica a → IsReplica (after_commit a k)
-    → changed (written (tables_of (after_commit a k)).meta [] (vector_between a (after_commit a k)) (length (after_commit a k).commits) (length a.commits + 1) (first_tentative a k) (map (undo_with (place_of a)) (first_tentative a k)) (map (canceller_of a) (first_tentative a k))) (tables_of a)
+    → changed (written (tables_of (after_commit a k)).meta [] (vector_between a (after_commit a k)) (length (after_commit a k).commits) (length a.commits + 1)
+    (first_tentative a k) (map (undo_with (place_of a)) (first_tentative a k)) (map (canceller_of a) (first_tentative a k))) (tables_of a)
     ≡ tables_of (after_commit a k)
 commit_changes a k ha hb =
     (λ i. changed (written (tables_of b).meta [] (vector_between a b) (length b.commits) (length a.commits + 1) first (undo i) (bys i)) (tables_of a))
-    ∙ put_makes a b (length a.commits + 1) (canceller_of b) first [] [] (vector_between a b) (omega arith) numbered (λ w h. refl) ha hb none (subst (Moves a b first) (sym (append-nil first)) m) refl (tallies_move a b ha hb m.stays)
+    ∙ put_makes a b (length a.commits + 1) (canceller_of b) first [] [] (vector_between a b) (omega arith) numbered
+    (λ w h. refl) ha hb none (subst (Moves a b first) (sym (append-nil first)) m) refl (tallies_move a b ha hb m.stays)
   where
     b : Replica
     b = after_commit a k
@@ -247,16 +259,19 @@ front_slice (suc n) x (y ∷ ys) (inl e) = (zero, ap Some (sym e), omega arith)
 front_slice (suc n) x (y ∷ ys) (inr h) = let (i, e, l) = front_slice n x ys h in (suc i, e, (let m : i < n = l in omega (arith, m)))
 
 -- the first kept writes are those that a truncation drops
-dropped_now : (a : Replica) (n : ℕ) (w : Write) → IsReplica a → IsReplica (after_truncate a n) → Has w (take (max a.dropped n - a.dropped) (kept_in_order a)) → is_dropped (after_truncate a n) (id_of w) ≡ true
+dropped_now : (a : Replica) (n : ℕ) (w : Write) → IsReplica a → IsReplica (after_truncate a n)
+    → Has w (take (max a.dropped n - a.dropped) (kept_in_order a)) → is_dropped (after_truncate a n) (id_of w) ≡ true
 dropped_now a n w ha hb h =
     let (i, e, l) = front_slice (max a.dropped n - a.dropped) w (kept_in_order a) h in
     let few : max a.dropped n ≤ length a.commits = hb.dropped_committed in
     let low : a.dropped + 1 + i ≤ length a.commits = omega (arith, l, few) in
-    let seq : seq_of a w ≡ a.dropped + 1 + i = kept_numbers a i w ha e ∙ cond-true (leb (a.dropped + 1 + i) (length a.commits)) (a.dropped + 1 + i) 0 (le-leb (a.dropped + 1 + i) (length a.commits) low) in
+    let seq : seq_of a w ≡ a.dropped + 1 + i = kept_numbers a i w ha e
+    ∙ cond-true (leb (a.dropped + 1 + i) (length a.commits)) (a.dropped + 1 + i) 0 (le-leb (a.dropped + 1 + i) (length a.commits) low) in
     front-seq (max a.dropped n) a.commits (id_of w)
     ∙ and_from (leb 1 (seq_of a w)) (leb (seq_of a w) (max a.dropped n)) (le-leb 1 (seq_of a w) (omega (arith, seq))) (le-leb (seq_of a w) (max a.dropped n) (omega (arith, seq, l)))
 
-now_dropped : (a : Replica) (n : ℕ) (w : Write) → IsReplica a → IsReplica (after_truncate a n) → Has w a.known → is_dropped a (id_of w) ≡ false → is_dropped (after_truncate a n) (id_of w) ≡ true → Has w (take (max a.dropped n - a.dropped) (kept_in_order a))
+now_dropped : (a : Replica) (n : ℕ) (w : Write) → IsReplica a → IsReplica (after_truncate a n) → Has w a.known → is_dropped a (id_of w) ≡ false
+    → is_dropped (after_truncate a n) (id_of w) ≡ true → Has w (take (max a.dropped n - a.dropped) (kept_in_order a))
 now_dropped a n w ha hb h d t =
     let (i, e) = has_place w (kept_in_order a) (known_kept a w ha h d) in
     let seq = kept_numbers a i w ha e in
@@ -278,7 +293,9 @@ still_dropped a n w d =
     ∙ and_from (leb 1 (seq_of a w)) (leb (seq_of a w) (max a.dropped n)) p.0 (le-leb (seq_of a w) (max a.dropped n) (omega (arith, high)))
 
 -- a table with a row for each kept write
-kept_forget : {R : Type 0} (a : Replica) (n : ℕ) (key : R → Id) (g : Write → R) → IsReplica a → IsReplica (after_truncate a n) → ((w : Write) → key (g w) ≡ id_of w) → rows_without key (map id_of (take (max a.dropped n - a.dropped) (kept_in_order a))) (map g (filter (λ w. not (is_dropped a (id_of w))) (by_id a.known))) ≡ map g (filter (λ w. not (is_dropped (after_truncate a n) (id_of w))) (by_id a.known))
+kept_forget : {R : Type 0} (a : Replica) (n : ℕ) (key : R → Id) (g : Write → R) → IsReplica a → IsReplica (after_truncate a n) → ((w : Write) → key (g w) ≡ id_of w)
+    → rows_without key (map id_of (take (max a.dropped n - a.dropped) (kept_in_order a))) (map g (filter (λ w. not (is_dropped a (id_of w))) (by_id a.known)))
+    ≡ map g (filter (λ w. not (is_dropped (after_truncate a n) (id_of w))) (by_id a.known))
 kept_forget {R} a n key g ha hb keyed =
     ap (rows_without key (map id_of gone)) (map_filter (λ w. is_dropped a (id_of w)) g (by_id a.known))
     ∙ rows_move a (after_truncate a n) key (row a) (row (after_truncate a n)) gone [] (map id_of gone) ha hb (bears a) (bears (after_truncate a n))
@@ -306,13 +323,15 @@ kept_forget {R} a n key g ha hb keyed =
         go true f = absurd (none_some x f)
         go false f = ap key (sym (some_inj (g w) x f)) ∙ keyed w
 
-    other : (w : Write) → Has w a.known → (b : Bool) → is_dropped a (id_of w) ≡ b → (c : Bool) → is_dropped (after_truncate a n) (id_of w) ≡ c → Has w gone ⊎ (Has w a.known × (row a w ≡ row (after_truncate a n) w))
+    other : (w : Write) → Has w a.known → (b : Bool) → is_dropped a (id_of w) ≡ b → (c : Bool)
+        → is_dropped (after_truncate a n) (id_of w) ≡ c → Has w gone ⊎ (Has w a.known × (row a w ≡ row (after_truncate a n) w))
     other w h false d true t = inl (now_dropped a n w ha hb h d t)
     other w h false d false t = inr (h, (let e = d ∙ sym t in λ i. cond (e i) None (Some (g w))))
     other w h true d c t = inr (h, (let e = d ∙ sym (still_dropped a n w d) in λ i. cond (e i) None (Some (g w))))
 
 -- the rows of the first kept writes leave the log
-pub truncate_changes : (a : Replica) (n : ℕ) → IsReplica a → IsReplica (after_truncate a n) → changed (forgotten (tables_of (after_truncate a n)).meta (map id_of (take (max a.dropped n - a.dropped) (kept_in_order a)))) (tables_of a) ≡ tables_of (after_truncate a n)
+pub truncate_changes : (a : Replica) (n : ℕ) → IsReplica a → IsReplica (after_truncate a n)
+    → changed (forgotten (tables_of (after_truncate a n)).meta (map id_of (take (max a.dropped n - a.dropped) (kept_in_order a)))) (tables_of a) ≡ tables_of (after_truncate a n)
 truncate_changes a n ha hb =
     λ i. record {
       meta = (tables_of (after_truncate a n)).meta;

@@ -1,5 +1,6 @@
 -- A commit of the first tentative writes: the order stays, only numbers change.
-use Rattle.std.proofs.Common.{◌≡◌, ℕ, zero, suc, ◌+◌, ◌-◌, ◌<◌, ◌≤◌, ◌==◌, not, true, cond, List, [], ◌∷◌, length, map, take, drop, get_or, ap, refl, sym, ◌∙◌, subst, append_assoc, append-nil, inl, arith}
+use Rattle.std.proofs.Common.{◌≡◌, ℕ, zero, suc, ◌+◌, ◌-◌, ◌<◌, ◌≤◌, ◌==◌, not, true, cond, List, [], ◌∷◌, length, map}
+use Rattle.std.proofs.Common.{take, drop, get_or, ap, refl, sym, ◌∙◌, subst, append_assoc, append-nil, inl, arith}
 use Rattle.std.proofs.lemmas.Bool.{eq-eqb}
 use Rattle.std.proofs.lemmas.List.{drop-map}
 use Rattle.mr_model.specs.Texts.{numbers_on, only_if}
@@ -48,9 +49,11 @@ pub summary-commits : (k : ℕ) (a : Replica) → IsReplica a → noted_commits 
 summary-commits zero a sound = ap (λ ids. summary_of (record a { commits = ids })) (sym (append-nil a.commits))
 summary-commits (suc k) a sound = go (tentative a) refl (summary-commits k)
   where
-    go : (ts : List Write) → tentative a ≡ ts → ((b : Replica) → IsReplica b → noted_commits (summary_of b) (map id_of (take k (tentative b))) ≡ summary_of (with_commits b (map id_of (take k (tentative b)))))
+    go : (ts : List Write) → tentative a ≡ ts
+        → ((b : Replica) → IsReplica b → noted_commits (summary_of b) (map id_of (take k (tentative b))) ≡ summary_of (with_commits b (map id_of (take k (tentative b)))))
         → noted_commits (summary_of a) (map id_of (take (suc k) (tentative a))) ≡ summary_of (with_commits a (map id_of (take (suc k) (tentative a))))
-    go [] e rest = ap (λ ts. noted_commits (summary_of a) (map id_of (take (suc k) ts))) e ∙ ap (λ ids. summary_of (record a { commits = ids })) (sym (append-nil a.commits)) ∙ ap (λ ts. summary_of (with_commits a (map id_of (take (suc k) ts)))) (sym e)
+    go [] e rest = ap (λ ts. noted_commits (summary_of a) (map id_of (take (suc k) ts))) e
+        ∙ ap (λ ids. summary_of (record a { commits = ids })) (sym (append-nil a.commits)) ∙ ap (λ ts. summary_of (with_commits a (map id_of (take (suc k) ts)))) (sym e)
     go (w ∷ ws) e rest =
         let b = add_commit a (id_of w) in
         let one : with_commits a (map id_of (take 1 (tentative a))) ≡ b = ap (λ ts. with_commits a (map id_of (take 1 ts))) e in

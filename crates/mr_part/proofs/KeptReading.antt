@@ -44,7 +44,8 @@ all_read f h ws k logs e l =
     ap (map h) (take_all k ws (omega (arith, l, long)))
 
 -- one row more
-pub told_more : (logs : List LogRow) (k : ℕ) (x : LogRow) → k < length logs → x ≡ get_or logs k x → map without_choices (take (k + 1) logs) ≡ map without_choices (take k logs) ++ without_choices x ∷ []
+pub told_more : (logs : List LogRow) (k : ℕ) (x : LogRow) → k < length logs → x ≡ get_or logs k x
+    → map without_choices (take (k + 1) logs) ≡ map without_choices (take k logs) ++ without_choices x ∷ []
 told_more [] k x l e = absurd (omega (arith, l))
 told_more (y ∷ ys) zero x l e = ap (λ row. without_choices row ∷ []) (sym e)
 told_more (y ∷ ys) (suc k) x l e =
@@ -87,6 +88,7 @@ own_cells (Cancels target) = same_id_from target target refl
 pub own_row : (w : Write) (place : Place) (seq : ℕ) → is_of_row w (log_row_with w place seq) ≡ true
 own_row w place seq =
     let s = w.stamp in
-    let stamp = and_from (s.server == s.server && s.n == s.n) (s.time == s.time) (and_from (s.server == s.server) (s.n == s.n) (eq-eqb s.server s.server refl) (eq-eqb s.n s.n refl)) (eq-eqb s.time s.time refl) in
+    let stamp = and_from (s.server == s.server && s.n == s.n) (s.time == s.time)
+    (and_from (s.server == s.server) (s.n == s.n) (eq-eqb s.server s.server refl) (eq-eqb s.n s.n refl)) (eq-eqb s.time s.time refl) in
     let room = and_from (s.server == s.server && s.n == s.n && s.time == s.time) (bytes_eq w.room w.room) stamp (same_bytes w.room w.room refl) in
     and_from (s.server == s.server && s.n == s.n && s.time == s.time && bytes_eq w.room w.room) (is_of_cells w.action (cells_of w.action)) room (own_cells w.action)

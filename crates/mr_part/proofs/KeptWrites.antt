@@ -46,7 +46,8 @@ abbrev pub IsFilled : List KeptRow → List KeptRow → KeptWrites → Type 0
 IsFilled rows left kept = (there : List KeptRow) × (left ++ there ≡ rows) × ((a : Replica) (ws : List Write) → there ≡ map (kept_row a) ws → HasKept kept (kept_row a) ws)
 
 -- the one that is taken from their end stands before those that the map has
-pub filled_more : (rows : List KeptRow) (old new : KeptWrites) (was left : List KeptRow) (x : KeptRow) (k : Id) → IsFilled rows was old → was ≡ left ++ x ∷ [] → k ≡ id_of x.write → Updates id_cmp old new k (Some x) → IsFilled rows left new
+pub filled_more : (rows : List KeptRow) (old new : KeptWrites) (was left : List KeptRow) (x : KeptRow) (k : Id)
+    → IsFilled rows was old → was ≡ left ++ x ∷ [] → k ≡ id_of x.write → Updates id_cmp old new k (Some x) → IsFilled rows left new
 filled_more rows old new was left x k filled last key put =
     let (there, parts, has) = filled in (
       x ∷ there,
@@ -54,7 +55,8 @@ filled_more rows old new was left x k filled last key put =
       more there has,
     )
   where
-    more : (there : List KeptRow) → ((a : Replica) (ws : List Write) → there ≡ map (kept_row a) ws → HasKept old (kept_row a) ws) → (a : Replica) (ws : List Write) → x ∷ there ≡ map (kept_row a) ws → HasKept new (kept_row a) ws
+    more : (there : List KeptRow) → ((a : Replica) (ws : List Write) → there ≡ map (kept_row a) ws → HasKept old (kept_row a) ws)
+        → (a : Replica) (ws : List Write) → x ∷ there ≡ map (kept_row a) ws → HasKept new (kept_row a) ws
     more there has a [] e = absurd (let n : suc (length there) ≡ 0 = ap length e in omega arith)
     more there has a (w ∷ ws) e =
         let first : x ≡ kept_row a w = cc in

@@ -15,13 +15,9 @@ use Rattle.mr_model.proofs.Members.{has_right}
 use Rattle.mr_model.proofs.KnownById.{with_id, tentative_known}
 use Rattle.mr_model.proofs.TwinChanges.{drop-front}
 use Rattle.mr_model.proofs.Orders.{committed-with, tentative-add_write}
+use Rattle.mr_replay.proofs.Overlaid.{or_swap}
 
 -- ---- rooms
-
-pub turned : (a b c : Bool) → (a || (b || c)) ≡ (b || (a || c))
-turned true true c = refl
-turned true false c = refl
-turned false b c = refl
 
 -- a list with one room more
 pub any-with_room : (name t : Text) (ts : List Text) → list_any (bytes_eq name) (with_room t ts) ≡ (bytes_eq name t || list_any (bytes_eq name) ts)
@@ -36,7 +32,7 @@ any-with_room name t (x ∷ xs) = go (text_before t x) (bytes_eq t x) refl (any-
         → list_any (bytes_eq name) (cond b (t ∷ x ∷ xs) (cond c (x ∷ xs) (x ∷ with_room t xs))) ≡ (bytes_eq name t || (bytes_eq name x || list_any (bytes_eq name) xs))
     go true c e ih = refl
     go false true e ih = twice (bytes_eq name x) (list_any (bytes_eq name) xs) ∙ ap (λ s. bytes_eq name s || (bytes_eq name x || list_any (bytes_eq name) xs)) (sym ((bytes_eq-Decides t x).0 e))
-    go false false e ih = ap (λ b. bytes_eq name x || b) ih ∙ turned (bytes_eq name x) (bytes_eq name t) (list_any (bytes_eq name) xs)
+    go false false e ih = ap (λ b. bytes_eq name x || b) ih ∙ or_swap (bytes_eq name x) (bytes_eq name t) (list_any (bytes_eq name) xs)
 
 -- ---- a write
 

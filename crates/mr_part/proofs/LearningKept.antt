@@ -1,5 +1,6 @@
 -- A candidate that takes a write or a commit shows the replica that takes it.
-use Rattle.std.proofs.Common.{◌≡◌, ℕ, suc, ◌+◌, ◌<◌, ◌≤◌, ◌==◌, ◌||◌, nat_le, Bool, true, false, cond, List, [], ◌∷◌, ◌++◌, length, Option, Some, None, is_some, ap, refl, sym, ◌∙◌, subst, append_assoc, ◌⊎◌, inl, inr, arith}
+use Rattle.std.proofs.Common.{◌≡◌, ℕ, suc, ◌+◌, ◌<◌, ◌≤◌, ◌==◌, ◌||◌, nat_le, Bool, true, false, cond, List, [], ◌∷◌, ◌++◌, length}
+use Rattle.std.proofs.Common.{Option, Some, None, is_some, ap, refl, sym, ◌∙◌, subst, append_assoc, ◌⊎◌, inl, inr, arith}
 use Rattle.std.specs.Prelude.{find, bytes_eq}
 use Rattle.std.specs.List.{filter, list_any}
 use Rattle.std.specs.Option.{option_map}
@@ -36,7 +37,8 @@ use Rattle.mr_replay.specs.Seen.{has_room}
 use Rattle.mr_part.specs.declared.batch.candidate.Candidate.{Candidate}
 use Rattle.mr_part.specs.Taken.{ShowsTaken, CoversScope}
 use Rattle.mr_part.proofs.Judging.{inside_named}
-use Rattle.mr_part.proofs.Learning.{turned, any-with_room, kept-learned, kept-moved}
+use Rattle.mr_part.proofs.Learning.{any-with_room, kept-learned, kept-moved}
+use Rattle.mr_replay.proofs.Overlaid.{or_swap}
 
 -- ---- lists
 
@@ -82,7 +84,8 @@ count_with q w vs ws e =
     omega arith
 
 -- of the kept writes that pass, the one that has an id is found by it
-found_by_id : (r : Replica) (inside : Write → Bool) (w : Write) (id : Id) → IsReplica r → inside w ≡ true → Has w (kept_in_order r) → same_id (id_of w) id ≡ true → write_with_id (filter inside (kept_in_order r)) id ≡ Some w
+found_by_id : (r : Replica) (inside : Write → Bool) (w : Write) (id : Id) → IsReplica r → inside w ≡ true
+    → Has w (kept_in_order r) → same_id (id_of w) id ≡ true → write_with_id (filter inside (kept_in_order r)) id ≡ Some w
 found_by_id r inside w id sound pass h e =
     find_one (λ v. same_id (id_of v) id) w (filter inside (kept_in_order r)) (has_filter inside w (kept_in_order r) pass h) e
     (λ v g s. one_known r v w sound (kept_known r v sound (filter_has inside v (kept_in_order r) g).0).0 (kept_known r w sound h).0 (same_id-true (id_of v) id s ∙ sym (same_id-true (id_of w) id e)))
@@ -106,7 +109,8 @@ held_own a w sound known =
     let e : nat_le w.stamp.n (count_of a w.stamp.server) ≡ true = grind (arith, nat_tests) in
     λ i. kept_row_with w (seq_of a w) (sym (cond-true (nat_le w.stamp.n (count_of a w.stamp.server)) (place_of a w) Logged e) i)
 
-pub held_all : (a : Replica) (inside : Write → Bool) (kept : KeptWrites) → IsReplica a → HasKept kept (kept_row a) (filter inside (kept_in_order a)) → HasKept kept (held_row a a) (filter inside (kept_in_order a))
+pub held_all : (a : Replica) (inside : Write → Bool) (kept : KeptWrites) → IsReplica a
+    → HasKept kept (kept_row a) (filter inside (kept_in_order a)) → HasKept kept (held_row a a) (filter inside (kept_in_order a))
 held_all a inside kept sound has id = has id ∙ go (write_with_id (filter inside (kept_in_order a)) id) refl
   where
     go : (o : Option Write) → write_with_id (filter inside (kept_in_order a)) id ≡ o → option_map (kept_row a) o ≡ option_map (held_row a a) o
@@ -123,7 +127,8 @@ count_more r w s = go (w.stamp.server == s) (count-with_write (λ v. v.stamp.ser
     go true e = omega (arith, e)
     go false e = omega (arith, e)
 
-pub shows-learned : (a : Replica) (items : List Item) (inside : Write → Bool) (c new : Candidate) (p : Progress) (w : Write) → IsReplica p.replica → w.stamp.server < 100 → IsNext p.replica w → Has (W w) items → CoversScope a items inside → ShowsTaken a inside c p
+pub shows-learned : (a : Replica) (items : List Item) (inside : Write → Bool) (c new : Candidate) (p : Progress) (w : Write)
+    → IsReplica p.replica → w.stamp.server < 100 → IsNext p.replica w → Has (W w) items → CoversScope a items inside → ShowsTaken a inside c p
     → new.summary ≡ noted_write c.summary w.stamp → ((name : Text) → has_room new.rooms name ≡ (bytes_eq name w.room || has_room c.rooms name))
     → ((id : Id) → logged_at new.kept id ≡ cond (same_id (id_of w) id) (Some (opened w)) (logged_at c.kept id)) → ShowsTaken a inside new (with_new_write p w)
 shows-learned a items inside c new p w sound small next named covers shows summary rooms kept =
@@ -131,7 +136,8 @@ shows-learned a items inside c new p w sound small next named covers shows summa
     let counted = ap (λ ws. length (filter inside ws)) (kept-learned r w sound next) ∙ count_with inside w (kept_committed r) (tentative r) is_in in
     record {
       summary = summary ∙ ap (λ (s : Summary). noted_write s w.stamp) shows.summary ∙ summary-write r w small next;
-      rooms = λ name. ap (λ b. list_any (bytes_eq name) a.rooms || b) (rooms name) ∙ turned (list_any (bytes_eq name) a.rooms) (bytes_eq name w.room) (has_room c.rooms name) ∙ ap (λ b. bytes_eq name w.room || b) (shows.rooms name) ∙ sym (any-with_room name w.room r.rooms);
+      rooms = λ name. ap (λ b. list_any (bytes_eq name) a.rooms || b) (rooms name) ∙ or_swap (list_any (bytes_eq name) a.rooms) (bytes_eq name w.room) (has_room c.rooms name)
+          ∙ ap (λ b. bytes_eq name w.room || b) (shows.rooms name) ∙ sym (any-with_room name w.room r.rooms);
       kept = λ id. kept id ∙ ap (cond (same_id (id_of w) id) (Some (opened w))) (shows.kept id) ∙ found id (same_id (id_of w) id) refl;
       writes = omega (arith, counted, was);
       marks = shows.marks;
@@ -154,7 +160,8 @@ shows-learned a items inside c new p w sound small next named covers shows summa
     there = subst (Has w) (sym (kept-learned r w sound next)) (has_right w (kept_committed r) (with_write w (tentative r)) (has_with_write w w (tentative r) (inl refl)))
 
     found : (id : Id) (b : Bool) → same_id (id_of w) id ≡ b
-        → cond b (Some (opened w)) (option_map (held_row a r) (write_with_id (filter inside (kept_in_order r)) id)) ≡ option_map (held_row a (add_write r w)) (write_with_id (filter inside (kept_in_order (add_write r w))) id)
+        → cond b (Some (opened w)) (option_map (held_row a r) (write_with_id (filter inside (kept_in_order r)) id))
+        ≡ option_map (held_row a (add_write r w)) (write_with_id (filter inside (kept_in_order (add_write r w))) id)
     found id true e =
         ap Some (held_new a (add_write r w) w unknown (seq_not 1 r.commits (id_of w) (new_not_committed r w sound next)))
         ∙ ap (option_map (held_row a (add_write r w))) (sym (found_by_id (add_write r w) inside w id sound' is_in there e))
@@ -169,7 +176,9 @@ seq_other : (k : ℕ) (ids : List Id) (id other : Id) → same_id id other ≡ f
 seq_other k [] id other e = cond-false (same_id id other) k 0 e
 seq_other k (x ∷ xs) id other e = ap (cond (same_id x other) k) (seq_other (k + 1) xs id other e)
 
-module _ (a : Replica) (items : List Item) (inside : Write → Bool) (c : Candidate) (p : Progress) (q : ℕ) (id : Id) (sound : IsReplica p.replica) (small : id.server < 100) (next : id.n ≡ committed_count p.replica id.server + 1) (high : id.n ≤ count_of p.replica id.server) (named : Has (C q id) items) (covers : CoversScope a items inside) (shows : ShowsTaken a inside c p) (m : CommitMoved p.replica id) where
+module _ (a : Replica) (items : List Item) (inside : Write → Bool) (c : Candidate) (p : Progress) (q : ℕ) (id : Id) (sound : IsReplica p.replica)
+    (small : id.server < 100) (next : id.n ≡ committed_count p.replica id.server + 1) (high : id.n ≤ count_of p.replica id.server)
+    (named : Has (C q id) items) (covers : CoversScope a items inside) (shows : ShowsTaken a inside c p) (m : CommitMoved p.replica id) where
   abbrev r : Replica
   r = p.replica
 
@@ -228,7 +237,8 @@ module _ (a : Replica) (items : List Item) (inside : Write → Bool) (c : Candid
       λ i. Some (kept_row_with v (sym (seq_other 1 r.commits id (id_of v) (ap (same_id id) mine ∙ e)) i) (held_place a v))
 
   moved_in : (other : Id) (b : Bool) → same_id id other ≡ b
-      → cond b (option_map (with_number (noted_commit c.summary id).commits) (logged_at c.kept id)) (logged_at c.kept other) ≡ option_map (held_row a r') (write_with_id (filter inside (kept_in_order r')) other)
+      → cond b (option_map (with_number (noted_commit c.summary id).commits) (logged_at c.kept id)) (logged_at c.kept other)
+      ≡ option_map (held_row a r') (write_with_id (filter inside (kept_in_order r')) other)
   moved_in other true e =
       ap (option_map (with_number (noted_commit c.summary id).commits)) found ∙ (λ i. Some (kept_row_with m.moved (commits i) (held_place a m.moved)))
       ∙ ap (option_map (held_row a r')) (sym (found_by_id r' inside m.moved other sound' is_in there' (ap (λ i. same_id i other) m.is_moved ∙ e)))

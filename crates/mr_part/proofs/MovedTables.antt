@@ -1,5 +1,6 @@
 -- The change between two replicas, where all but some writes keep their rows, turns the tables of the one into those of the other.
-use Rattle.std.proofs.Common.{◌≡◌, refl, sym, ap, ◌∙◌, subst, ℕ, zero, suc, ◌+◌, ◌≤◌, Bool, true, false, ◌||◌, cond, eqb, ltb, List, [], ◌∷◌, length, map, ◌⊎◌, inl, inr, Option, Some, None, arith, lt-ltb}
+use Rattle.std.proofs.Common.{◌≡◌, refl, sym, ap, ◌∙◌, subst, ℕ, zero, suc, ◌+◌, ◌≤◌, Bool, true, false, ◌||◌, cond, eqb}
+use Rattle.std.proofs.Common.{ltb, List, [], ◌∷◌, length, map, ◌⊎◌, inl, inr, Option, Some, None, arith, lt-ltb}
 use Rattle.std.proofs.lemmas.Bool.{true≢false, cond-false, or_cases, or_left, or_right}
 use Rattle.std.proofs.lemmas.Slice.Eq.{bytes_eq-Decides}
 use Rattle.std.specs.Prelude.{flat_map, bytes_eq, ◌↔◌}
@@ -10,7 +11,8 @@ use Rattle.mr_model.specs.Writes.{Id, Action, Books, Cancels, Write, id_of}
 use Rattle.mr_model.specs.Replica.{Replica, IsReplica, count_of, writes_of, text_before, is_among, is_dropped, is_committed}
 use Rattle.mr_model.specs.Replay.{Place, slot_at}
 use Rattle.mr_model.specs.View.{place_of, canceller_of}
-use Rattle.mr_model.specs.Tables.{VectorRow, LogRow, BookingRow, ErrorRow, CancelledRow, CancelRow, PlaceRow, by_id, seq_of, vector_row, log_row, as_booking, as_error, as_cancelled, as_cancel, booking_place_row, place_row_for, place_row, tables_of}
+use Rattle.mr_model.specs.Tables.{VectorRow, LogRow, BookingRow, ErrorRow, CancelledRow, CancelRow, PlaceRow, by_id, seq_of, vector_row, log_row}
+use Rattle.mr_model.specs.Tables.{as_booking, as_error, as_cancelled, as_cancel, booking_place_row, place_row_for, place_row, tables_of}
 use Rattle.mr_model.specs.Queries.{booking_id, error_id, cancelled_id, cancel_id, row_id, log_id}
 use Rattle.mr_model.specs.Tables as rows
 use Rattle.mr_model.specs.Changes.{IdBefore}
@@ -29,7 +31,7 @@ use Rattle.mr_model.proofs.UniqueReplay.{some_inj, none_some}
 use Rattle.mr_tables.specs.Change.{put_all, rows_without, id_before, ChangeView, changed}
 use Rattle.mr_tables.specs.Written.{not_booked, not_erred, not_cancelled, with_places}
 use Rattle.mr_tables.specs.TableOrders.{InOrder, number_order, name_order, id_before_from}
-use Rattle.mr_tables.proofs.Putting.{Lacks, puts_make, change_makes}
+use Rattle.mr_tables.proofs.Putting.{Lacks, puts_make, change_makes, without_none}
 use Rattle.mr_part.specs.Sets.{AreTogether}
 
 -- ---- one table of writes
@@ -58,9 +60,12 @@ pub record RowsMove (R : Type 0) (a b : Replica) (fa fb : Write → Option R) (w
   pub gone_is : (i : Id) → Has i gone → (w : Write) × Has w ws × (id_of w ≡ i)
   pub is_gone : (w : Write) (row : R) → Has w ws → fa w ≡ Some row → fb w ≡ None → Has (id_of w) gone
 
-pub rows_move : {R : Type 0} (a b : Replica) (key : R → Id) (fa fb : Write → Option R) (ws : List Write) (rows : List R) (gone : List Id) → IsReplica a → IsReplica b → Bears key fa → Bears key fb → RowsMove R a b fa fb ws rows gone → put_all id_before key rows (rows_without key gone (filter_map fa (by_id a.known))) ≡ filter_map fb (by_id b.known)
+pub rows_move : {R : Type 0} (a b : Replica) (key : R → Id) (fa fb : Write → Option R) (ws : List Write) (rows : List R) (gone : List Id)
+    → IsReplica a → IsReplica b → Bears key fa → Bears key fb → RowsMove R a b fa fb ws rows gone
+    → put_all id_before key rows (rows_without key gone (filter_map fa (by_id a.known))) ≡ filter_map fb (by_id b.known)
 rows_move {R} a b key fa fb ws rows gone ha hb ka kb m =
-    change_makes key gone rows (filter_map fa (by_id a.known)) (filter_map fb (by_id b.known)) (rows_in_order a key fa ha ka) (rows_in_order b key fb hb kb) new old (λ row h. let (w, c, e) = filter_map_has fb row (by_id b.known) h in told row w (by_id_has b w c) e)
+    change_makes key gone rows (filter_map fa (by_id a.known)) (filter_map fb (by_id b.known)) (rows_in_order a key fa ha ka)
+    (rows_in_order b key fb hb kb) new old (λ row h. let (w, c, e) = filter_map_has fb row (by_id b.known) h in told row w (by_id_has b w c) e)
   where
     row_there : (w : Write) (row : R) → Has w b.known → fb w ≡ Some row → Has row (filter_map fb (by_id b.known))
     row_there w row h e = has_filter_map fb w row (by_id b.known) e (has_by_id b w hb h)
@@ -146,7 +151,10 @@ vector_in_order r k (suc n) =
     lt-ltb x.server y.server (omega (arith, l, p, q)))
 
 -- rows of servers, where these are rows of now, and each server with no row here is as it was
-pub vectors_move : (a b : Replica) (rows : List VectorRow) → IsReplica a → IsReplica b → ((w : Write) → Has w a.known → Has w b.known) → ((row : VectorRow) → Has row rows → Has row (tables_of b).vector) → ((s : ℕ) → 1 ≤ s → s ≤ 99 → (count_of b s ≡ 0 → ⊥) → Has (vector_entry b s) rows ⊎ (vector_entry a s ≡ vector_entry b s)) → put_all ltb (λ (row : VectorRow). row.server) rows (tables_of a).vector ≡ (tables_of b).vector
+pub vectors_move : (a b : Replica) (rows : List VectorRow) → IsReplica a → IsReplica b
+    → ((w : Write) → Has w a.known → Has w b.known) → ((row : VectorRow) → Has row rows → Has row (tables_of b).vector)
+    → ((s : ℕ) → 1 ≤ s → s ≤ 99 → (count_of b s ≡ 0 → ⊥) → Has (vector_entry b s) rows ⊎ (vector_entry a s ≡ vector_entry b s))
+    → put_all ltb (λ (row : VectorRow). row.server) rows (tables_of a).vector ≡ (tables_of b).vector
 vectors_move a b rows ha hb stays new others =
     puts_make ltb (λ (row : VectorRow). row.server) number_order rows (tables_of a).vector (tables_of b).vector (vector_in_order a 1 99) (vector_in_order b 1 99) new old told
   where
@@ -186,7 +194,8 @@ vectors_move a b rows ha hb stays new others =
             more (inr e) = inr (((rows_of_known a ha).vector row).1 ((λ z. p.0 (sym (ap (λ (v : VectorRow). v.count) e) ∙ z)), p.1 ∙ sym e))
 
 -- the names of rooms likewise
-pub rooms_move : (a b : Replica) (rooms : List Text) → IsReplica a → IsReplica b → ((t : Text) → Has t b.rooms ↔ (Has t rooms ⊎ Has t a.rooms)) → put_all text_before (λ name. name) rooms a.rooms ≡ b.rooms
+pub rooms_move : (a b : Replica) (rooms : List Text) → IsReplica a → IsReplica b
+    → ((t : Text) → Has t b.rooms ↔ (Has t rooms ⊎ Has t a.rooms)) → put_all text_before (λ name. name) rooms a.rooms ≡ b.rooms
 rooms_move a b rooms ha hb are =
     puts_make text_before (λ name. name) name_order rooms a.rooms b.rooms ha.rooms_in_order hb.rooms_in_order (λ t h. (are t).1 (inl h)) (λ t h l. (are t).1 (inr h)) (λ t h. (are t).0 h)
 
@@ -199,8 +208,10 @@ there_room : (t : Text) (ts : List Text) → Has t ts → list_any (bytes_eq t) 
 there_room t ts h = any_has (bytes_eq t) t ts ((bytes_eq-Decides t t).1 refl) h
 
 -- the rooms that come to the known ones complete them
-pub rooms_complete : (a b : Replica) (rooms : List Text) → IsReplica a → IsReplica b → AreTogether a.rooms (λ t. list_any (bytes_eq t) rooms) b.rooms → put_all text_before (λ name. name) rooms a.rooms ≡ b.rooms
-rooms_complete a b rooms ha hb are = rooms_move a b rooms ha hb (λ t. (λ h. there t (or_cases (list_any (bytes_eq t) a.rooms) (list_any (bytes_eq t) rooms) (are t ∙ there_room t b.rooms h)), λ h. room_there t b.rooms (sym (are t) ∙ back t h)))
+pub rooms_complete : (a b : Replica) (rooms : List Text) → IsReplica a → IsReplica b
+    → AreTogether a.rooms (λ t. list_any (bytes_eq t) rooms) b.rooms → put_all text_before (λ name. name) rooms a.rooms ≡ b.rooms
+rooms_complete a b rooms ha hb are = rooms_move a b rooms ha hb
+    (λ t. (λ h. there t (or_cases (list_any (bytes_eq t) a.rooms) (list_any (bytes_eq t) rooms) (are t ∙ there_room t b.rooms h)), λ h. room_there t b.rooms (sym (are t) ∙ back t h)))
   where
     there : (t : Text) → (list_any (bytes_eq t) a.rooms ≡ true) ⊎ (list_any (bytes_eq t) rooms ≡ true) → Has t rooms ⊎ Has t a.rooms
     there t (inl e) = inr (room_there t a.rooms e)
@@ -220,7 +231,8 @@ log_same : (a b : Replica) (w : Write) → a.dropped ≡ b.dropped → seq_of a 
 log_same a b w d e p = let gone = dropped_same a b w d e in λ i. cond (gone i) None (Some (record (log_row a w) { seq = e i; place = p i }))
 
 -- the rows of the kept writes
-log_move : (a b : Replica) (logs places : List Write) → IsReplica a → IsReplica b → Moves a b logs places → put_all id_before log_id (map (log_row b) logs) (rows_without log_id [] (tables_of a).log) ≡ (tables_of b).log
+log_move : (a b : Replica) (logs places : List Write) → IsReplica a → IsReplica b → Moves a b logs places
+    → put_all id_before log_id (map (log_row b) logs) (rows_without log_id [] (tables_of a).log) ≡ (tables_of b).log
 log_move a b logs places ha hb m =
     ap (λ rows. put_all id_before log_id (map (log_row b) logs) (rows_without log_id [] rows)) (map_filter (λ w. is_dropped a (id_of w)) (log_row a) (by_id a.known))
     ∙ rows_move a b log_id (kept_log a) (kept_log b) logs (map (log_row b) logs) [] ha hb (log_bears a) (log_bears b)
@@ -229,7 +241,8 @@ log_move a b logs places ha hb m =
       others = λ w h. go w (m.logged w h);
       moved = λ w h. (m.kept w h).0;
       put_is = λ r h. let (w, c, e) = map_has (log_row b) r logs h in (w, c, cond-false (is_dropped b (id_of w)) None (Some (log_row b w)) (m.kept w c).1 ∙ ap Some (sym e));
-      is_put = λ w r h e. subst (λ x. Has x (map (log_row b) logs)) (some_inj (log_row b w) r (sym (cond-false (is_dropped b (id_of w)) None (Some (log_row b w)) (m.kept w h).1) ∙ e)) (has_map (log_row b) w logs h);
+      is_put = λ w r h e. subst (λ x. Has x (map (log_row b) logs))
+          (some_inj (log_row b w) r (sym (cond-false (is_dropped b (id_of w)) None (Some (log_row b w)) (m.kept w h).1) ∙ e)) (has_map (log_row b) w logs h);
       gone_is = λ i h. absurd h;
       is_gone = λ w r h e f. absurd (none_some (log_row b w) (sym f ∙ cond-false (is_dropped b (id_of w)) None (Some (log_row b w)) (m.kept w h).1));
     })
@@ -246,17 +259,17 @@ picked : {A B C : Type 0} (f : B → Option C) (g : A → B) (xs : List A) → f
 picked f g [] = refl
 picked f g (x ∷ xs) = ap (cons_option (f (g x))) (picked f g xs)
 
-pub without_none : {R : Type 0} (key : R → Id) (rows : List R) → rows_without key [] rows ≡ rows
-without_none key [] = refl
-without_none key (x ∷ xs) = ap (λ ys. x ∷ ys) (without_none key xs)
-
 -- the ids that are taken away are those of rows, and a row that goes to another table leaves this one
 record Leaves (R : Type 0) (as_row : PlaceRow → Option R) (gone : PlaceRow → Option Id) : Type 0 where
   is_key : (q : PlaceRow) (i : Id) → gone q ≡ Some i → i ≡ row_id q
-  leaves : (w : Write) (x : Action) (p q : Place) (c d : Option Id) (m n : Bool) (s t : ℕ) (row : R) → as_row (place_row_for w x p c m s) ≡ Some row → as_row (place_row_for w x q d n t) ≡ None → gone (place_row_for w x q d n t) ≡ Some (row_id (place_row_for w x q d n t))
+  leaves : (w : Write) (x : Action) (p q : Place) (c d : Option Id) (m n : Bool) (s t : ℕ) (row : R) → as_row (place_row_for w x p c m s) ≡ Some row
+      → as_row (place_row_for w x q d n t) ≡ None → gone (place_row_for w x q d n t) ≡ Some (row_id (place_row_for w x q d n t))
 
 -- a table of the rows of one kind
-place_move : {R : Type 0} (a b : Replica) (logs places : List Write) (key : R → Id) (as_row : PlaceRow → Option R) (gone : PlaceRow → Option Id) → IsReplica a → IsReplica b → Moves a b logs places → Bears key (λ w. as_row (place_row a w)) → Bears key (λ w. as_row (place_row b w)) → Leaves R as_row gone → put_all id_before key (filter_map as_row (map (place_row b) places)) (rows_without key (filter_map gone (map (place_row b) places)) (filter_map (λ w. as_row (place_row a w)) (by_id a.known))) ≡ filter_map (λ w. as_row (place_row b w)) (by_id b.known)
+place_move : {R : Type 0} (a b : Replica) (logs places : List Write) (key : R → Id) (as_row : PlaceRow → Option R) (gone : PlaceRow → Option Id) → IsReplica a
+    → IsReplica b → Moves a b logs places → Bears key (λ w. as_row (place_row a w)) → Bears key (λ w. as_row (place_row b w)) → Leaves R as_row gone
+    → put_all id_before key (filter_map as_row (map (place_row b) places)) (rows_without key (filter_map gone (map (place_row b) places)) (filter_map (λ w. as_row (place_row a w)) (by_id a.known)))
+    ≡ filter_map (λ w. as_row (place_row b w)) (by_id b.known)
 place_move {R} a b logs places key as_row gone ha hb m ka kb l =
     (λ i. put_all id_before key (picked as_row (place_row b) places i) (rows_without key (picked gone (place_row b) places i) (filter_map (λ w. as_row (place_row a w)) (by_id a.known))))
     ∙ rows_move a b key (λ w. as_row (place_row a w)) (λ w. as_row (place_row b w)) places (filter_map (λ w. as_row (place_row b w)) places) (filter_map (λ w. gone (place_row b w)) places) ha hb ka kb
@@ -269,7 +282,8 @@ place_move {R} a b logs places key as_row gone ha hb m ka kb l =
       gone_is = λ i h. let (w, c, e) = filter_map_has (λ v. gone (place_row b v)) i places h in (w, c, sym (l.is_key (place_row b w) i e ∙ key-row b w));
       is_gone = λ w r h e f.
           has_filter_map (λ v. gone (place_row b v)) w (id_of w) places
-          (l.leaves w w.action (place_of a w) (place_of b w) (canceller_of a w) (canceller_of b w) (is_committed a (id_of w)) (is_committed b (id_of w)) (seq_of a w) (seq_of b w) r e f ∙ ap Some (key-row b w)) h;
+          (l.leaves w w.action (place_of a w) (place_of b w) (canceller_of a w) (canceller_of b w) (is_committed a (id_of w)) (is_committed b (id_of w)) (seq_of a w) (seq_of b w) r e f
+          ∙ ap Some (key-row b w)) h;
     })
   where
     go : (w : Write) → Has w places ⊎ (Has w a.known × (place_row a w ≡ place_row b w)) → Has w places ⊎ (Has w a.known × (as_row (place_row a w) ≡ as_row (place_row b w)))
@@ -285,7 +299,8 @@ booking_leaves = record { is_key = is_key; leaves = leaves }
     is_key (rows.Cancelled row) i e = sym (some_inj (cancelled_id row) i e)
     is_key (rows.Cancel row) i e = absurd (none_some i e)
 
-    leaves : (w : Write) (x : Action) (p q : Place) (c d : Option Id) (m n : Bool) (s t : ℕ) (row : BookingRow) → as_booking (place_row_for w x p c m s) ≡ Some row → as_booking (place_row_for w x q d n t) ≡ None → not_booked (place_row_for w x q d n t) ≡ Some (row_id (place_row_for w x q d n t))
+    leaves : (w : Write) (x : Action) (p q : Place) (c d : Option Id) (m n : Bool) (s t : ℕ) (row : BookingRow) → as_booking (place_row_for w x p c m s) ≡ Some row
+        → as_booking (place_row_for w x q d n t) ≡ None → not_booked (place_row_for w x q d n t) ≡ Some (row_id (place_row_for w x q d n t))
     leaves w (Cancels y) p q c d m n s t row e f = absurd (none_some row e)
     leaves w (Books y) p q c d m n s t row e f = go (slot_at w q) d f
       where
@@ -303,7 +318,8 @@ error_leaves = record { is_key = is_key; leaves = leaves }
     is_key (rows.Cancelled row) i e = sym (some_inj (cancelled_id row) i e)
     is_key (rows.Cancel row) i e = absurd (none_some i e)
 
-    leaves : (w : Write) (x : Action) (p q : Place) (c d : Option Id) (m n : Bool) (s t : ℕ) (row : ErrorRow) → as_error (place_row_for w x p c m s) ≡ Some row → as_error (place_row_for w x q d n t) ≡ None → not_erred (place_row_for w x q d n t) ≡ Some (row_id (place_row_for w x q d n t))
+    leaves : (w : Write) (x : Action) (p q : Place) (c d : Option Id) (m n : Bool) (s t : ℕ) (row : ErrorRow) → as_error (place_row_for w x p c m s) ≡ Some row
+        → as_error (place_row_for w x q d n t) ≡ None → not_erred (place_row_for w x q d n t) ≡ Some (row_id (place_row_for w x q d n t))
     leaves w (Cancels y) p q c d m n s t row e f = absurd (none_some row e)
     leaves w (Books y) p q c d m n s t row e f = go (slot_at w q) d f
       where
@@ -321,7 +337,8 @@ cancelled_leaves = record { is_key = is_key; leaves = leaves }
     is_key (rows.Cancelled row) i e = absurd (none_some i e)
     is_key (rows.Cancel row) i e = absurd (none_some i e)
 
-    leaves : (w : Write) (x : Action) (p q : Place) (c d : Option Id) (m n : Bool) (s t : ℕ) (row : CancelledRow) → as_cancelled (place_row_for w x p c m s) ≡ Some row → as_cancelled (place_row_for w x q d n t) ≡ None → not_cancelled (place_row_for w x q d n t) ≡ Some (row_id (place_row_for w x q d n t))
+    leaves : (w : Write) (x : Action) (p q : Place) (c d : Option Id) (m n : Bool) (s t : ℕ) (row : CancelledRow) → as_cancelled (place_row_for w x p c m s) ≡ Some row
+        → as_cancelled (place_row_for w x q d n t) ≡ None → not_cancelled (place_row_for w x q d n t) ≡ Some (row_id (place_row_for w x q d n t))
     leaves w (Cancels y) p q c d m n s t row e f = absurd (none_some row e)
     leaves w (Books y) p q c d m n s t row e f = go (slot_at w q) d f
       where
@@ -331,7 +348,8 @@ cancelled_leaves = record { is_key = is_key; leaves = leaves }
         go (Some z) (Some k) f = absurd (none_some _ (sym f))
 
 -- a row of cancels stays one
-stays_cancel : (w : Write) (x : Action) (p q : Place) (c d : Option Id) (m n : Bool) (s t : ℕ) (row : CancelRow) → as_cancel (place_row_for w x p c m s) ≡ Some row → as_cancel (place_row_for w x q d n t) ≡ None → ⊥
+stays_cancel : (w : Write) (x : Action) (p q : Place) (c d : Option Id) (m n : Bool) (s t : ℕ) (row : CancelRow)
+    → as_cancel (place_row_for w x p c m s) ≡ Some row → as_cancel (place_row_for w x q d n t) ≡ None → ⊥
 stays_cancel w (Cancels y) p q c d m n s t row e f = none_some _ (sym f)
 stays_cancel w (Books y) p q c d m n s t row e f = go (slot_at w p) c e
   where
@@ -348,7 +366,8 @@ unfolding gone_with
 none_gone [] = refl
 none_gone (p ∷ ps) = none_gone ps
 
-cancels_move : (a b : Replica) (logs places : List Write) → IsReplica a → IsReplica b → Moves a b logs places → put_all id_before cancel_id (filter_map as_cancel (map (place_row b) places)) (tables_of a).cancels ≡ (tables_of b).cancels
+cancels_move : (a b : Replica) (logs places : List Write) → IsReplica a → IsReplica b → Moves a b logs places
+    → put_all id_before cancel_id (filter_map as_cancel (map (place_row b) places)) (tables_of a).cancels ≡ (tables_of b).cancels
 unfolding gone_with
 cancels_move a b logs places ha hb m =
     ap (put_all id_before cancel_id (filter_map as_cancel (map (place_row b) places))) (sym (without_none cancel_id (tables_of a).cancels))
@@ -356,7 +375,9 @@ cancels_move a b logs places ha hb m =
     ∙ place_move a b logs places cancel_id as_cancel gone_with ha hb m (cancel_bears a) (cancel_bears b)
     (record { is_key = λ q i e. absurd (none_some i e); leaves = λ w x p q c d k n s t row e f. absurd (stays_cancel w x p q c d k n s t row e f) })
 
-pub moves : (a b : Replica) (logs places : List Write) (rooms : List Text) (vector : List VectorRow) → IsReplica a → IsReplica b → Moves a b logs places → put_all text_before (λ name. name) rooms a.rooms ≡ b.rooms → put_all ltb (λ (row : VectorRow). row.server) vector (tables_of a).vector ≡ (tables_of b).vector → changed (change_of b logs places rooms vector) (tables_of a) ≡ tables_of b
+pub moves : (a b : Replica) (logs places : List Write) (rooms : List Text) (vector : List VectorRow) → IsReplica a → IsReplica b → Moves a b logs places
+    → put_all text_before (λ name. name) rooms a.rooms ≡ b.rooms → put_all ltb (λ (row : VectorRow). row.server) vector (tables_of a).vector ≡ (tables_of b).vector
+    → changed (change_of b logs places rooms vector) (tables_of a) ≡ tables_of b
 moves a b logs places rooms vector ha hb m e f = λ i. record {
   meta = (tables_of b).meta;
   room = e i;

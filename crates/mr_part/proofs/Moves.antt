@@ -1,5 +1,6 @@
 -- What a batch undoes and executes anew, picked from lists of kept writes.
-use Rattle.std.proofs.Common.{◌≡◌, sym, ap, ◌∙◌, subst, ℕ, ◌+◌, ◌<◌, ◌≤◌, Bool, true, false, cond, ◌&&◌, ◌||◌, ◌==◌, ltb, List, [], ◌∷◌, ◌++◌, length, get_or, drop, map, ◌⊎◌, inl, inr, Some, append_assoc, append-nil, arith, refl, leb, le-leb, lt-ltb, ltb-true, eq-eqb, eqb-true}
+use Rattle.std.proofs.Common.{◌≡◌, sym, ap, ◌∙◌, subst, ℕ, ◌+◌, ◌<◌, ◌≤◌, Bool, true, false, cond, ◌&&◌, ◌||◌, ◌==◌, ltb, List, [], ◌∷◌, ◌++◌, length, get_or}
+use Rattle.std.proofs.Common.{drop, map, ◌⊎◌, inl, inr, Some, append_assoc, append-nil, arith, refl, leb, le-leb, lt-ltb, ltb-true, eq-eqb, eqb-true}
 use Rattle.std.proofs.lemmas.List.{get_or-map, at_drop_all, length-append, length-map, map-append}
 use Rattle.std.proofs.lemmas.Bool.{true≢false, cond-true, cond-false, false_from_ne_true, and_parts, and_from, or_left, or_right}
 use Rattle.std.proofs.lemmas.List.Elements.{filter-append}
@@ -29,23 +30,27 @@ use Rattle.mr_part.specs.KeptRows.{kept_row, row_writes, row_undos}
 use Rattle.mr_part.specs.Logged.{undo_with}
 use Rattle.mr_part.specs.Taken.{CoversScope, is_inside}
 use Rattle.mr_part.specs.KeptWrites.{held_place, held_row}
-use Rattle.mr_part.proofs.OrderNumbers.{dropped_long, order_numbers, slice_left, has_place}
+use Rattle.mr_part.proofs.OrderNumbers.{dropped_long, order_numbers, slice_left}
 use Rattle.mr_part.proofs.BatchNumbers.{commits_long, new_number}
 use Rattle.mr_part.proofs.Picking.{picked_here, left_here}
 use Rattle.mr_model.proofs.Fronts.{get_below}
+use Rattle.mr_model.proofs.InScope.{tentative_number}
+use Rattle.mr_model.proofs.Lists.{filter_true, has_place}
 
 -- ---- picking one by one
 
 pub told_at : {A B : Type 0} (f : A → B) (xs : List A) (ys : List B) (k : ℕ) (x : A) (d : B) → k < length xs → x ≡ get_or xs k x → ys ≡ map f xs → f x ≡ get_or ys k d
 told_at f xs ys k x d low at e = ap f at ∙ sym (get_or-map f xs k x d low) ∙ ap (λ zs. get_or zs k d) (sym e)
 
-pub pick_more : {A B : Type 0} (f : A → B) (p : A → Bool) (xs : List A) (k : ℕ) (x : A) (done next : List B) (y : B) → k < length xs → x ≡ get_or xs k x → p x ≡ true → y ≡ f x → next ≡ done ++ y ∷ [] → done ++ map f (filter p (drop k xs)) ≡ map f (filter p xs) → next ++ map f (filter p (drop (k + 1) xs)) ≡ map f (filter p xs)
+pub pick_more : {A B : Type 0} (f : A → B) (p : A → Bool) (xs : List A) (k : ℕ) (x : A) (done next : List B) (y : B) → k < length xs → x ≡ get_or xs k x → p x ≡ true
+    → y ≡ f x → next ≡ done ++ y ∷ [] → done ++ map f (filter p (drop k xs)) ≡ map f (filter p xs) → next ++ map f (filter p (drop (k + 1) xs)) ≡ map f (filter p xs)
 pick_more f p xs k x done next y low at t is more e =
     let rest = map f (filter p (drop (k + 1) xs)) in
     ap (λ ys. ys ++ rest) more ∙ append_assoc done (y ∷ []) rest ∙ ap (λ z. done ++ z ∷ rest) is
     ∙ ap (λ zs. done ++ map f zs) (sym (picked_here p xs k x low at t)) ∙ e
 
-pub pick_none : {A B : Type 0} (f : A → B) (p : A → Bool) (xs : List A) (k : ℕ) (x : A) (done next : List B) → k < length xs → x ≡ get_or xs k x → p x ≡ false → next ≡ done → done ++ map f (filter p (drop k xs)) ≡ map f (filter p xs) → next ++ map f (filter p (drop (k + 1) xs)) ≡ map f (filter p xs)
+pub pick_none : {A B : Type 0} (f : A → B) (p : A → Bool) (xs : List A) (k : ℕ) (x : A) (done next : List B) → k < length xs → x ≡ get_or xs k x → p x ≡ false
+    → next ≡ done → done ++ map f (filter p (drop k xs)) ≡ map f (filter p xs) → next ++ map f (filter p (drop (k + 1) xs)) ≡ map f (filter p xs)
 pick_none f p xs k x done next low at t same e =
     ap (λ ys. ys ++ map f (filter p (drop (k + 1) xs))) same ∙ ap (λ zs. done ++ map f zs) (sym (left_here p xs k x low at t)) ∙ e
 
@@ -54,7 +59,8 @@ pub pick_end : {A B : Type 0} (f : A → B) (p : A → Bool) (xs : List A) (k : 
 pick_end f p xs k done all e = sym (append-nil done) ∙ ap (λ ys. done ++ ys) (sym (at_drop_all (λ zs. map f (filter p zs)) xs k all)) ∙ e
 
 -- one more, where they are looked at one by one
-pub passed_more : {A B : Type 0} (f : A → B) (p : A → Bool) (xs : List A) (x : A) (b : Bool) (done next : List B) → b ≡ p x → next ≡ cond b (done ++ f x ∷ []) done → done ≡ map f (filter p xs) → next ≡ map f (filter p (xs ++ x ∷ []))
+pub passed_more : {A B : Type 0} (f : A → B) (p : A → Bool) (xs : List A) (x : A) (b : Bool) (done next : List B)
+    → b ≡ p x → next ≡ cond b (done ++ f x ∷ []) done → done ≡ map f (filter p xs) → next ≡ map f (filter p (xs ++ x ∷ []))
 passed_more f p xs x b done next is put e = put ∙ go b is ∙ sym (ap (map f) (filter-append p xs (x ∷ [])))
   where
     go : (c : Bool) → c ≡ p x → cond c (done ++ f x ∷ []) done ≡ map f (filter p xs ++ filter p (x ∷ []))
@@ -87,7 +93,8 @@ module _ (a : Replica) (items : List Item) (inside : Write → Bool) (sound : Is
           let known = kept_known a w sound there.0 in
           let row = ((rows_of_known a sound).log (log_row a w)).1 (w, known.0, known.1, refl) in
           subst (λ u. Has u (map (λ (r : LogRow). r.room) (filter (λ r. same_id (log_id r) id) (tables_of a).log))) (sym e)
-          (has_map (λ (r : LogRow). r.room) (log_row a w) (filter (λ r. same_id (log_id r) id) (tables_of a).log) (has_filter (λ (r : LogRow). same_id (log_id r) id) (log_row a w) (tables_of a).log f.1 row))
+          (has_map (λ (r : LogRow). r.room) (log_row a w) (filter (λ r. same_id (log_id r) id) (tables_of a).log)
+          (has_filter (λ (r : LogRow). same_id (log_id r) id) (log_row a w) (tables_of a).log f.1 row))
 
   back : (t : Text) (x : Item) → Has x items → Has t (rooms_of_item (length a.commits) (tables_of a).log x) → Has t (rooms_named (length a.commits) (filter inside (kept_in_order a)) x)
   back t (W w) g h = h
@@ -103,7 +110,8 @@ module _ (a : Replica) (items : List Item) (inside : Write → Bool) (sound : Is
           let f = filter_has (λ (r : LogRow). same_id (log_id r) id) r (tables_of a).log m in
           let (w, known, kept, is) = ((rows_of_known a sound).log r).0 f.0 in
           let own : same_id (id_of w) id ≡ true = ap (λ (v : LogRow). same_id (log_id v) id) (sym is) ∙ f.1 in
-          let named : is_among (id_of w) (map item_id items) ≡ true = has_among (id_of w) (map item_id items) (subst (λ i. Has i (map item_id items)) (sym (same_id-true (id_of w) id own)) (has_map item_id (C seq id) items g)) in
+          let named : is_among (id_of w) (map item_id items) ≡ true =
+          has_among (id_of w) (map item_id items) (subst (λ i. Has i (map item_id items)) (sym (same_id-true (id_of w) id own)) (has_map item_id (C seq id) items g)) in
           let there : Has w ws = has_filter inside w (kept_in_order a) (covers w (or_left _ _ (or_left _ _ named))) (known_kept a w sound known kept) in
           subst (λ u. Has u (map (λ (v : Write). v.room) (filter (λ v. same_id (id_of v) id) ws))) (sym (e ∙ ap (λ (v : LogRow). v.room) is))
           (has_map (λ (v : Write). v.room) w (filter (λ v. same_id (id_of v) id) ws) (has_filter (λ (v : Write). same_id (id_of v) id) w ws own there))
@@ -111,8 +119,10 @@ module _ (a : Replica) (items : List Item) (inside : Write → Bool) (sound : Is
   pub touched_told : AreTouched (flat_map (rooms_named (length a.commits) (filter inside (kept_in_order a))) items) a items
   touched_told room =
       same_any room (flat_map (rooms_named (length a.commits) (filter inside (kept_in_order a))) items) (touched_rooms (tables_of a) items)
-      (λ t h. let (x, g, k) = flat_has (rooms_named (length a.commits) (filter inside (kept_in_order a))) t items h in has_flat (rooms_of_item (length a.commits) (tables_of a).log) t x items g (here t x g k))
-      (λ t h. let (x, g, k) = flat_has (rooms_of_item (length a.commits) (tables_of a).log) t items h in has_flat (rooms_named (length a.commits) (filter inside (kept_in_order a))) t x items g (back t x g k))
+      (λ t h. let (x, g, k) = flat_has (rooms_named (length a.commits) (filter inside (kept_in_order a))) t items h in
+      has_flat (rooms_of_item (length a.commits) (tables_of a).log) t x items g (here t x g k))
+      (λ t h. let (x, g, k) = flat_has (rooms_of_item (length a.commits) (tables_of a).log) t items h in
+      has_flat (rooms_named (length a.commits) (filter inside (kept_in_order a))) t x items g (back t x g k))
 
 -- ---- those in scope
 
@@ -120,7 +130,8 @@ filter_inside : {A : Type 0} (q p inside : A → Bool) (xs : List A) → ((x : A
 filter_inside q p inside [] same all = refl
 filter_inside q p inside (x ∷ xs) same all = go (inside x) refl (p x) refl (filter_inside q p inside xs (λ y h. same y (inr h)) (λ y h. all y (inr h)))
   where
-    go : (b : Bool) → inside x ≡ b → (d : Bool) → p x ≡ d → filter q (filter inside xs) ≡ filter p xs → filter q (cond b (x ∷ filter inside xs) (filter inside xs)) ≡ cond d (x ∷ filter p xs) (filter p xs)
+    go : (b : Bool) → inside x ≡ b → (d : Bool) → p x ≡ d → filter q (filter inside xs) ≡ filter p xs
+        → filter q (cond b (x ∷ filter inside xs) (filter inside xs)) ≡ cond d (x ∷ filter p xs) (filter p xs)
     go true e true f ih = cond-true (q x) (x ∷ filter q (filter inside xs)) (filter q (filter inside xs)) (same x (inl refl) ∙ f) ∙ ap (λ ys. x ∷ ys) ih
     go true e false f ih = cond-false (q x) (x ∷ filter q (filter inside xs)) (filter q (filter inside xs)) (same x (inl refl) ∙ f) ∙ ih
     go false e true f ih = absurd (true≢false (sym (all x (inl refl) f) ∙ e))
@@ -133,15 +144,13 @@ pub none_passes : {A : Type 0} (xs : List A) → filter (λ x. false) xs ≡ []
 none_passes [] = refl
 none_passes (x ∷ xs) = none_passes xs
 
-pub all_pass : {A : Type 0} (xs : List A) → filter (λ x. true) xs ≡ xs
-all_pass [] = refl
-all_pass (x ∷ xs) = ap (λ ys. x ∷ ys) (all_pass xs)
-
 filter_logged : (q : KeptRow → Bool) (a r : Replica) (ws : List Write) → row_writes (filter q (map (held_row a r) ws)) ≡ filter (λ w. q (held_row a r w)) ws
 filter_logged q a r [] = refl
 filter_logged q a r (w ∷ ws) = go (q (held_row a r w)) (filter_logged q a r ws)
   where
-    go : (b : Bool) → row_writes (filter q (map (held_row a r) ws)) ≡ filter (λ v. q (held_row a r v)) ws → row_writes (cond b (held_row a r w ∷ filter q (map (held_row a r) ws)) (filter q (map (held_row a r) ws))) ≡ cond b (w ∷ filter (λ v. q (held_row a r v)) ws) (filter (λ v. q (held_row a r v)) ws)
+    go : (b : Bool) → row_writes (filter q (map (held_row a r) ws)) ≡ filter (λ v. q (held_row a r v)) ws
+        → row_writes (cond b (held_row a r w ∷ filter q (map (held_row a r) ws)) (filter q (map (held_row a r) ws)))
+        ≡ cond b (w ∷ filter (λ v. q (held_row a r v)) ws) (filter (λ v. q (held_row a r v)) ws)
     go true ih = ap (λ vs. w ∷ vs) ih
     go false ih = ih
 
@@ -151,7 +160,8 @@ undos_held q a r [] = refl
 undos_held q a r (w ∷ ws) = go (q (held_row a r w)) (undos_held q a r ws)
   where
     go : (b : Bool) → row_undos (filter q (map (held_row a r) ws)) ≡ map (undo_with (held_place a)) (row_writes (filter q (map (held_row a r) ws)))
-        → row_undos (cond b (held_row a r w ∷ filter q (map (held_row a r) ws)) (filter q (map (held_row a r) ws))) ≡ map (undo_with (held_place a)) (row_writes (cond b (held_row a r w ∷ filter q (map (held_row a r) ws)) (filter q (map (held_row a r) ws))))
+        → row_undos (cond b (held_row a r w ∷ filter q (map (held_row a r) ws)) (filter q (map (held_row a r) ws)))
+        ≡ map (undo_with (held_place a)) (row_writes (cond b (held_row a r w ∷ filter q (map (held_row a r) ws)) (filter q (map (held_row a r) ws))))
     go true ih = ap (λ us. undo_with (held_place a) w ∷ us) ih
     go false ih = ih
 
@@ -169,16 +179,14 @@ first_number r front rest w sound parts h =
     let seq : seq_of r w ≡ 1 + i = order_numbers r i w sound there ∙ cond-true (leb (1 + i) (length r.commits)) (1 + i) 0 (le-leb (1 + i) (length r.commits) within) in
     (omega (arith, seq), omega (arith, seq, low))
 
-pub tentative_number : (r : Replica) (w : Write) → Has w (tentative r) → seq_of r w ≡ 0
-tentative_number r w h = seq_not 1 r.commits (id_of w) (λ g. true≢false (sym (has_among (id_of w) r.commits g) ∙ (tentative_known r w h).1))
-
 -- ---- rows
 
 pub filter-map : {A B : Type 0} (p : B → Bool) (g : A → B) (xs : List A) → filter p (map g xs) ≡ map g (filter (λ x. p (g x)) xs)
 filter-map p g [] = refl
 filter-map p g (x ∷ xs) = go (p (g x)) (filter-map p g xs)
   where
-    go : (b : Bool) → filter p (map g xs) ≡ map g (filter (λ y. p (g y)) xs) → cond b (g x ∷ filter p (map g xs)) (filter p (map g xs)) ≡ map g (cond b (x ∷ filter (λ y. p (g y)) xs) (filter (λ y. p (g y)) xs))
+    go : (b : Bool) → filter p (map g xs) ≡ map g (filter (λ y. p (g y)) xs)
+        → cond b (g x ∷ filter p (map g xs)) (filter p (map g xs)) ≡ map g (cond b (x ∷ filter (λ y. p (g y)) xs) (filter (λ y. p (g y)) xs))
     go true ih = ap (λ ys. g x ∷ ys) ih
     go false ih = ih
 
@@ -187,15 +195,19 @@ map-twice f g [] = refl
 map-twice f g (x ∷ xs) = ap (λ ys. f (g x) ∷ ys) (map-twice f g xs)
 
 -- the rooms of the writes that a new commit names are those of their rows
-pub rooms_of_rows : (commits : ℕ) (rows : List KeptRow) (seq : ℕ) (other : Id) → rooms_named commits (row_writes rows) (C seq other) ≡ cond (ltb commits seq) (map (λ (x : KeptRow). x.write.room) (filter (λ (x : KeptRow). same_id (id_of x.write) other) rows)) []
+pub rooms_of_rows : (commits : ℕ) (rows : List KeptRow) (seq : ℕ) (other : Id) → rooms_named commits (row_writes rows) (C seq other)
+    ≡ cond (ltb commits seq) (map (λ (x : KeptRow). x.write.room) (filter (λ (x : KeptRow). same_id (id_of x.write) other) rows)) []
 rooms_of_rows commits rows seq other =
     ap (λ names. cond (ltb commits seq) names [])
-    (ap (map (λ (w : Write). w.room)) (filter-map (λ (w : Write). same_id (id_of w) other) (λ (x : KeptRow). x.write) rows) ∙ map-twice (λ (w : Write). w.room) (λ (x : KeptRow). x.write) (filter (λ (x : KeptRow). same_id (id_of x.write) other) rows))
+    (ap (map (λ (w : Write). w.room)) (filter-map (λ (w : Write). same_id (id_of w) other) (λ (x : KeptRow). x.write) rows)
+    ∙ map-twice (λ (w : Write). w.room) (λ (x : KeptRow). x.write) (filter (λ (x : KeptRow). same_id (id_of x.write) other) rows))
 
 -- what undoes those of a replica's writes that are tentative and may move
-pub undos_moved : (a : Replica) (touched : List Text) (items : List Item) (commits : ℕ) (ws : List Write) → row_undos (filter (moves_row touched items commits) (map (kept_row a) ws)) ≡ map (undo_with (place_of a)) (filter (λ w. seq_of a w == 0 && moves_in touched items commits w) ws)
+pub undos_moved : (a : Replica) (touched : List Text) (items : List Item) (commits : ℕ) (ws : List Write)
+    → row_undos (filter (moves_row touched items commits) (map (kept_row a) ws)) ≡ map (undo_with (place_of a)) (filter (λ w. seq_of a w == 0 && moves_in touched items commits w) ws)
 undos_moved a touched items commits ws =
-    ap row_undos (filter-map (moves_row touched items commits) (kept_row a) ws) ∙ map-twice (λ (x : KeptRow). x.undo) (kept_row a) (filter (λ w. seq_of a w == 0 && moves_in touched items commits w) ws)
+    ap row_undos (filter-map (moves_row touched items commits) (kept_row a) ws)
+    ∙ map-twice (λ (x : KeptRow). x.undo) (kept_row a) (filter (λ w. seq_of a w == 0 && moves_in touched items commits w) ws)
 
 -- ---- what is undone and what is executed anew
 
@@ -207,7 +219,8 @@ moving_inside a items w open_ e =
     (and_from (is_in_tail (length a.commits) items (log_row a w)) (is_touched (tables_of a) items w.room) tail p.0)
 
 -- a kept commit isn't moved
-pub moves_not : (a : Replica) (items : List Item) (touched : List Text) → IsReplica a → (w : Write) → Has w (kept_committed a) → (seq_of a w == 0 && moves_in touched items (length a.commits) w) ≡ false
+pub moves_not : (a : Replica) (items : List Item) (touched : List Text) → IsReplica a → (w : Write)
+    → Has w (kept_committed a) → (seq_of a w == 0 && moves_in touched items (length a.commits) w) ≡ false
 moves_not a items touched sound w h =
     let there = subst (λ ws. Has w ws) (sym (committed-parts a)) (has_right w (dropped_in_order a) (kept_committed a) h) in
     let low = (first_number a (committed a) [] w sound (sym (append-nil (committed a))) there).0 in
@@ -215,16 +228,19 @@ moves_not a items touched sound w h =
     λ i. no i && moves_in touched items (length a.commits) w
 
 -- a tentative write is moved where it may move
-pub moves_as : (a : Replica) (items : List Item) (touched : List Text) → AreTouched touched a items → (w : Write) → Has w (tentative a) → (seq_of a w == 0 && moves_in touched items (length a.commits) w) ≡ may_move a items w
+pub moves_as : (a : Replica) (items : List Item) (touched : List Text) → AreTouched touched a items → (w : Write)
+    → Has w (tentative a) → (seq_of a w == 0 && moves_in touched items (length a.commits) w) ≡ may_move a items w
 moves_as a items touched right w h = let open_ = tentative_number a w h in λ i. eq-eqb (seq_of a w) 0 open_ i && (right w.room i && is_late (length a.commits) items w.stamp.time w.stamp.server)
 
-pub undone_picked : (a : Replica) (items : List Item) (inside : Write → Bool) (touched : List Text) → IsReplica a → CoversScope a items inside → AreTouched touched a items → filter (λ w. seq_of a w == 0 && moves_in touched items (length a.commits) w) (filter inside (kept_in_order a)) ≡ filter (may_move a items) (tentative a)
+pub undone_picked : (a : Replica) (items : List Item) (inside : Write → Bool) (touched : List Text) → IsReplica a → CoversScope a items inside → AreTouched touched a items
+    → filter (λ w. seq_of a w == 0 && moves_in touched items (length a.commits) w) (filter inside (kept_in_order a)) ≡ filter (may_move a items) (tentative a)
 undone_picked a items inside touched sound covers right =
     filter_apart (λ w. seq_of a w == 0 && moves_in touched items (length a.commits) w) inside (kept_committed a) (tentative a)
     ∙ (λ i. none i ++ some i)
   where
     none : filter (λ w. seq_of a w == 0 && moves_in touched items (length a.commits) w) (filter inside (kept_committed a)) ≡ []
-    none = filter_inside (λ w. seq_of a w == 0 && moves_in touched items (length a.commits) w) (λ w. false) inside (kept_committed a) (moves_not a items touched sound) (λ w h e. absurd (true≢false (sym e))) ∙ none_passes (kept_committed a)
+    none = filter_inside (λ w. seq_of a w == 0 && moves_in touched items (length a.commits) w) (λ w. false) inside
+        (kept_committed a) (moves_not a items touched sound) (λ w h e. absurd (true≢false (sym e))) ∙ none_passes (kept_committed a)
 
     some : filter (λ w. seq_of a w == 0 && moves_in touched items (length a.commits) w) (filter inside (tentative a)) ≡ filter (may_move a items) (tentative a)
     some =
@@ -237,7 +253,8 @@ anew a b items touched w = is_anew touched items (length a.commits) (held_row a 
 not_above : (n k : ℕ) → k ≤ n → ltb n k ≡ false
 not_above n k l = false_from_ne_true (ltb n k) (λ t. let g = ltb-true n k t in omega (arith, g, l))
 
-pub again_picked : (a b : Replica) (items : List Item) (inside : Write → Bool) (touched : List Text) (commits : ℕ) (kept : List KeptRow) (m : ShowsMoves a b items inside touched commits kept) → row_writes (filter (is_anew touched items commits) kept) ≡ again a items m.moves.news b
+pub again_picked : (a b : Replica) (items : List Item) (inside : Write → Bool) (touched : List Text) (commits : ℕ) (kept : List KeptRow)
+    (m : ShowsMoves a b items inside touched commits kept) → row_writes (filter (is_anew touched items commits) kept) ≡ again a items m.moves.news b
 again_picked a b items inside touched commits kept m =
     (λ i. row_writes (filter (is_anew touched items (m.commits_are i)) (m.kept_are i)))
     ∙ filter_logged (is_anew touched items (length a.commits)) a b (filter inside (kept_in_order b))
@@ -251,7 +268,8 @@ again_picked a b items inside touched commits kept m =
 
     kept_is : kept_committed b ≡ kept_committed a ++ m.moves.news
     kept_is =
-        (append_split (dropped_in_order b) (dropped_in_order a) (kept_committed b) (kept_committed a ++ m.moves.news) (dropped_long b m.moves.sound ∙ sym m.moves.dropped ∙ sym (dropped_long a m.sound))
+        (append_split (dropped_in_order b) (dropped_in_order a) (kept_committed b) (kept_committed a ++ m.moves.news)
+        (dropped_long b m.moves.sound ∙ sym m.moves.dropped ∙ sym (dropped_long a m.sound))
         (sym (committed-parts b) ∙ m.moves.committed_are ∙ ap (λ ws. ws ++ m.moves.news) (committed-parts a) ∙ append_assoc (dropped_in_order a) (kept_committed a) m.moves.news)).1
 
     old : (w : Write) → Has w (kept_committed a) → anew a b items touched w ≡ false
@@ -273,7 +291,8 @@ again_picked a b items inside touched commits kept m =
         let low = get_below m.moves.news i w e in
         let commits = commits_long a b items m.moves m.sound in
         let within : length a.commits + 1 + i ≤ length b.commits = omega (arith, low, commits) in
-        let seq : seq_of b w ≡ length a.commits + 1 + i = new_number a b items m.moves m.sound i w low e ∙ cond-true (leb (length a.commits + 1 + i) (length b.commits)) (length a.commits + 1 + i) 0 (le-leb (length a.commits + 1 + i) (length b.commits) within) in
+        let seq : seq_of b w ≡ length a.commits + 1 + i = new_number a b items m.moves m.sound i w low e
+        ∙ cond-true (leb (length a.commits + 1 + i) (length b.commits)) (length a.commits + 1 + i) 0 (le-leb (length a.commits + 1 + i) (length b.commits) within) in
         omega (arith, seq)
 
     shown : (w : Write) → Has w m.moves.news → inside w ≡ true
@@ -292,12 +311,13 @@ again_picked a b items inside touched commits kept m =
         filter_inside (anew a b items touched) (λ w. true) inside m.moves.news
         (λ w h. or_left (ltb (length a.commits) (seq_of b w)) (seq_of b w == 0 && moves_in touched items (length a.commits) w) (lt-ltb (length a.commits) (seq_of b w) (number w h)))
         (λ w h e. shown w h)
-        ∙ all_pass m.moves.news
+        ∙ filter_true m.moves.news
 
     uncommitted : (w : Write) → Has w (tentative b) → seq_of a w ≡ 0
     uncommitted w h =
         seq_not 1 a.commits (id_of w)
-        (λ g. true≢false (sym (has_among (id_of w) b.commits (subst (λ ids. Has (id_of w) ids) (sym m.moves.commits_are) (has_left (id_of w) a.commits (map id_of m.moves.news) g))) ∙ (tentative_known b w h).1))
+        (λ g. true≢false (sym (has_among (id_of w) b.commits (subst (λ ids. Has (id_of w) ids) (sym m.moves.commits_are) (has_left (id_of w) a.commits (map id_of m.moves.news) g)))
+        ∙ (tentative_known b w h).1))
 
     same_test : (w : Write) → Has w (tentative b) → anew a b items touched w ≡ may_move a items w
     same_test w h =
@@ -310,9 +330,11 @@ again_picked a b items inside touched commits kept m =
     some = filter_inside (anew a b items touched) (may_move a items) inside (tentative b) same_test (λ w h e. m.covers w (moving_inside a items w (uncommitted w h) e))
 
 -- and what undid them
-pub undos_picked : (a b : Replica) (items : List Item) (inside : Write → Bool) (touched : List Text) (commits : ℕ) (kept : List KeptRow) → ShowsMoves a b items inside touched commits kept → row_undos (filter (is_anew touched items commits) kept) ≡ map (undo_with (held_place a)) (row_writes (filter (is_anew touched items commits) kept))
+pub undos_picked : (a b : Replica) (items : List Item) (inside : Write → Bool) (touched : List Text) (commits : ℕ) (kept : List KeptRow) → ShowsMoves a b items inside touched commits kept
+    → row_undos (filter (is_anew touched items commits) kept) ≡ map (undo_with (held_place a)) (row_writes (filter (is_anew touched items commits) kept))
 undos_picked a b items inside touched commits kept m =
-    subst (λ (rows : List KeptRow). row_undos (filter (is_anew touched items commits) rows) ≡ map (undo_with (held_place a)) (row_writes (filter (is_anew touched items commits) rows))) (sym m.kept_are)
+    subst (λ (rows : List KeptRow). row_undos (filter (is_anew touched items commits) rows) ≡ map (undo_with (held_place a)) (row_writes (filter (is_anew touched items commits) rows)))
+    (sym m.kept_are)
     (undos_held (is_anew touched items commits) a b (filter inside (kept_in_order b)))
 
 -- ---- what is in scope

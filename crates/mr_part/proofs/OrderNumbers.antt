@@ -1,5 +1,6 @@
 -- The commit numbers of a replica's writes, by their places in the order of execution.
-use Rattle.std.proofs.Common.{◌≡◌, sym, ap, ◌∙◌, subst, ℕ, zero, suc, ◌+◌, ◌-◌, ◌<◌, ◌≤◌, leb, List, [], ◌∷◌, ◌++◌, length, map, take, ◌⊎◌, inl, inr, Some, arith, le-leb, leb-true, length-append, refl}
+use Rattle.std.proofs.Common.{◌≡◌, sym, ap, ◌∙◌, subst, ℕ, zero, suc, ◌+◌, ◌-◌, ◌<◌, ◌≤◌, leb, List, [], ◌∷◌, ◌++◌}
+use Rattle.std.proofs.Common.{length, map, take, ◌⊎◌, inl, inr, Some, arith, le-leb, leb-true, length-append, refl}
 use Rattle.std.proofs.lemmas.Bool.{true≢false, cond-true, cond-false, false_from_ne_true, cases_order}
 use Rattle.std.proofs.lemmas.List.{length-map, length-take-le, map-append, length-take}
 use Rattle.std.specs.List.{slice_get}
@@ -33,12 +34,6 @@ slice_left [] ys i l = absurd (Rattle.std.proofs.Common.not-suc-le-zero l)
 slice_left (x ∷ xs) ys zero l = refl
 slice_left (x ∷ xs) ys (suc i) l = slice_left xs ys i (Rattle.std.proofs.Common.le_of_suc-le-suc l)
 
--- an element of a list has a place in it
-pub has_place : {A : Type 0} (x : A) (xs : List A) → Has x xs → (i : ℕ) × (slice_get xs i ≡ Some x)
-has_place x [] h = absurd h
-has_place x (y ∷ ys) (inl e) = (zero, ap Some (sym e))
-has_place x (y ∷ ys) (inr h) = let (i, e) = has_place x ys h in (suc i, e)
-
 -- ---- numbers in the order
 
 -- up to the last commit a place is a number
@@ -70,7 +65,8 @@ order_numbers r i w h e = go (le_or_lt (suc i) (length (committed r)))
         seq_at 1 r.commits (id_of w) i (distinct_commits r h) id ∙ sym (within_commits (length r.commits) (1 + i) (omega (arith, l, long)))
     go (inr l) =
         let at : i ≡ length (committed r) + (i - length (committed r)) = omega (arith, l) in
-        let there : slice_get (tentative r) (i - length (committed r)) ≡ Some w = sym (slice_behind (committed r) (tentative r) (i - length (committed r))) ∙ ap (slice_get (order_of r)) (sym at) ∙ e in
+        let there : slice_get (tentative r) (i - length (committed r)) ≡ Some w = sym (slice_behind (committed r) (tentative r) (i - length (committed r)))
+        ∙ ap (slice_get (order_of r)) (sym at) ∙ e in
         let long = committed_long r h in
         no_number r (1 + i) w (slice_has (tentative r) (i - length (committed r)) w there) (omega (arith, l, long))
 

@@ -55,7 +55,8 @@ keys_rise a (w ∷ ws) s = (
 )
 
 -- the picked writes, sorted, stand in the order of execution
-pub picked_sorted : (a : Replica) (test : LogRow → Bool) (rows : List LogRow) (ws : List Write) (p : ArePicked a test rows ws) (sorted : List KeptRow) → IsPermutation (map (kept_row a) p.by_key) sorted → IsSortedByKey run_place run_cmp sorted → sorted ≡ map (kept_row a) ws
+pub picked_sorted : (a : Replica) (test : LogRow → Bool) (rows : List LogRow) (ws : List Write) (p : ArePicked a test rows ws) (sorted : List KeptRow)
+    → IsPermutation (map (kept_row a) p.by_key) sorted → IsSortedByKey run_place run_cmp sorted → sorted ≡ map (kept_row a) ws
 picked_sorted a test rows ws p sorted moved s =
     sorted_is run_cmp run_order run_place KeyBefore never_before (map (kept_row a) p.by_key) sorted (map (kept_row a) ws)
     (keys_rise a p.by_key p.rising) moved s (rows_rise a ws p.in_order)

@@ -1,5 +1,6 @@
 -- Rows that are read one by one: some of them done, those that pass a test, and what all rows that are picked keep.
-use Rattle.std.proofs.Common.{◌≡◌, refl, sym, ap, ◌∙◌, subst, ℕ, zero, suc, ◌+◌, ◌<◌, Bool, true, false, cond, List, [], ◌∷◌, ◌++◌, length, get_or, take, map, inl, append_assoc, append-nil, arith, drop}
+use Rattle.std.proofs.Common.{◌≡◌, refl, sym, ap, ◌∙◌, subst, ℕ, zero, suc, ◌+◌, ◌<◌, Bool, true, false, cond, List}
+use Rattle.std.proofs.Common.{[], ◌∷◌, ◌++◌, length, get_or, take, map, inl, append_assoc, append-nil, arith, drop}
 use Rattle.std.proofs.lemmas.Bool.{true≢false, cond-true, cond-false}
 use Rattle.std.specs.List.{AllByRecursion, filter}
 use Rattle.mr_model.specs.Dropped.{Has}
@@ -58,11 +59,13 @@ of_picked P p (r ∷ rs) (suc k) row all low at passed = of_picked P p rs k row 
     go false a = a
 
 -- what those of the rows so far keep that are picked, and one row more that is picked, or isn't
-pub all_passed : {R : Type 0} (P : R → Type 0) (p : R → Bool) (rows : List R) (k : ℕ) (row : R) → AllByRecursion P (filter p (take k rows)) → P row → k < length rows → row ≡ get_or rows k row → p row ≡ true → AllByRecursion P (filter p (take (k + 1) rows))
+pub all_passed : {R : Type 0} (P : R → Type 0) (p : R → Bool) (rows : List R) (k : ℕ) (row : R) → AllByRecursion P (filter p (take k rows))
+    → P row → k < length rows → row ≡ get_or rows k row → p row ≡ true → AllByRecursion P (filter p (take (k + 1) rows))
 all_passed P p rows k row so one low at passed =
     subst (AllByRecursion P) (ap (λ c. filter p (take k rows) ++ cond c (row ∷ []) []) (sym passed) ∙ filter_more p rows k row low at) (all_append P (filter p (take k rows)) (row ∷ []) so (one, tt))
 
-pub all_over : {R : Type 0} (P : R → Type 0) (p : R → Bool) (rows : List R) (k : ℕ) (row : R) → AllByRecursion P (filter p (take k rows)) → k < length rows → row ≡ get_or rows k row → p row ≡ false → AllByRecursion P (filter p (take (k + 1) rows))
+pub all_over : {R : Type 0} (P : R → Type 0) (p : R → Bool) (rows : List R) (k : ℕ) (row : R) → AllByRecursion P (filter p (take k rows))
+    → k < length rows → row ≡ get_or rows k row → p row ≡ false → AllByRecursion P (filter p (take (k + 1) rows))
 all_over P p rows k row so low at failed =
     subst (AllByRecursion P) (sym (append-nil (filter p (take k rows))) ∙ ap (λ c. filter p (take k rows) ++ cond c (row ∷ []) []) (sym failed) ∙ filter_more p rows k row low at) so
 

@@ -25,12 +25,13 @@ use Rattle.mr_tables.specs.Summary.{tally_at}
 use Rattle.mr_tables.specs.Written.{with_place}
 use Rattle.mr_tables.proofs.BoardsTold.{known_at, unknown_at, known_or_none}
 use Rattle.mr_tables.proofs.Fitting.{choice_fits}
-use Rattle.mr_part.specs.Placing.{with_places_put, board_place, TraceEnds, RowEnds, row_canceller, is_booking_trace, is_booking_row_in, has_booking}
+use Rattle.mr_part.specs.Placing.{with_places_put, board_place, TraceEnds, RowEnds, row_canceller, is_booking_trace, is_booking_row_in, has_booking_on}
 use Rattle.mr_part.proofs.RowsPut.{tallies_of}
 use Rattle.mr_agree.proofs.AgreeCounts.{vector-at, known_first}
 use Rattle.mr_replay.specs.declared.rows.Trace.{Trace}
 use Rattle.mr_replay.specs.declared.rows.Row.{Row}
 use Rattle.mr_tables.proofs.Summaries.{tally-of}
+use Rattle.mr_model.proofs.RowCancels.{cancel_slot}
 
 -- one row more is put
 pub put-more : (c : ChangeView) (rows : List PlaceRow) (row : PlaceRow) → with_places_put c (rows ++ row ∷ []) ≡ with_place (with_places_put c rows) row
@@ -70,17 +71,13 @@ canceller_slot r w c h k e =
     subst (λ v. (s : Slot) × (slot_at v (place_of r v) ≡ Some s)) s
     (go t.write t.cancelled_by refl (sym told.cancelled ∙ ap (canceller_of r) s ∙ e) told.booked told.place)
   where
-    go : (v : Write) {p : Place} {o : Option Placed} (x : Option Placed) → o ≡ x → option_map (λ (y : Placed). id_of y.write) o ≡ Some c → ((y : Placed) → o ≡ Some y → (z : Slot) × (slot_at v p ≡ Some z)) → place_of r v ≡ p → (z : Slot) × (slot_at v (place_of r v) ≡ Some z)
+    go : (v : Write) {p : Place} {o : Option Placed} (x : Option Placed) → o ≡ x → option_map (λ (y : Placed). id_of y.write) o ≡ Some c
+        → ((y : Placed) → o ≡ Some y → (z : Slot) × (slot_at v p ≡ Some z)) → place_of r v ≡ p → (z : Slot) × (slot_at v (place_of r v) ≡ Some z)
     go v None q f booked place = absurd (none_some c (ap (option_map (λ (y : Placed). id_of y.write)) (sym q) ∙ f))
     go v (Some y) q f booked place = let (z, i) = booked y q in (z, ap (slot_at v) place ∙ i)
 
-cancel_slot : (w : Write) (t : Id) (p : Place) → w.action ≡ Cancels t → slot_at w p ≡ None
-cancel_slot w t (Taken k) e = ap (λ a. slice_get (choices_in a) k) e
-cancel_slot w t Logged e = refl
-cancel_slot w t Done e = refl
-cancel_slot w t Void e = refl
-
-canceller-row : (w : Write) (a : Action) (p : Place) (by : Option Id) → w.action ≡ a → ((c : Id) → by ≡ Some c → (s : Slot) × (slot_at w p ≡ Some s)) → row_canceller (option_map (λ k. record { room = w.room; trace = k }) (trace_for w a p by)) ≡ by
+canceller-row : (w : Write) (a : Action) (p : Place) (by : Option Id) → w.action ≡ a → ((c : Id) → by ≡ Some c → (s : Slot) × (slot_at w p ≡ Some s))
+    → row_canceller (option_map (λ k. record { room = w.room; trace = k }) (trace_for w a p by)) ≡ by
 canceller-row w (Books m) p by e f = go (slot_at w p) by f
   where
     go : (o : Option Slot) (by : Option Id) → ((c : Id) → by ≡ Some c → (s : Slot) × (o ≡ Some s)) → row_canceller (Some (record { room = w.room; trace = trace_with m o by })) ≡ by
@@ -90,7 +87,8 @@ canceller-row w (Books m) p by e f = go (slot_at w p) by f
     go (Some s) (Some c) f = refl
 canceller-row w (Cancels t) p by e f = go by p f
   where
-    go : (by : Option Id) (q : Place) → ((c : Id) → by ≡ Some c → (s : Slot) × (slot_at w p ≡ Some s)) → row_canceller (option_map (λ k. record { room = w.room; trace = k }) (trace_for w (Cancels t) q by)) ≡ by
+    go : (by : Option Id) (q : Place) → ((c : Id) → by ≡ Some c → (s : Slot) × (slot_at w p ≡ Some s))
+        → row_canceller (option_map (λ k. record { room = w.room; trace = k }) (trace_for w (Cancels t) q by)) ≡ by
     go (Some c) q f = let (s, i) = f c refl in absurd (none_some s (sym (cancel_slot w t p e) ∙ i))
     go None (Taken k) f = refl
     go None Logged f = refl
@@ -110,12 +108,16 @@ if_placed (Erred row) = None
 if_placed (Cancelled row) = Some (Cancelled row)
 if_placed (Cancel row) = None
 
-placed-meeting : (ts : List Tally) (w : Write) (m : Meeting) (o : Option Slot) (by : Option Id) (mark : Bool) (seq : ℕ) → leb w.stamp.n (tally_at ts w.stamp.server).committed ≡ mark → kept_row (board_place ts) w (Some (trace_with m o by)) ≡ if_placed (booking_place_row w m o by mark seq)
+placed-meeting : (ts : List Tally) (w : Write) (m : Meeting) (o : Option Slot) (by : Option Id) (mark : Bool) (seq : ℕ)
+    → leb w.stamp.n (tally_at ts w.stamp.server).committed ≡ mark → kept_row (board_place ts) w (Some (trace_with m o by)) ≡ if_placed (booking_place_row w m o by mark seq)
 placed-meeting ts w m None by mark seq e = refl
-placed-meeting ts w m (Some s) None mark seq e = λ i. Some (Booked (record { room = w.room; day = s.day; start = s.start; stop = s.start + m.length; server = w.stamp.server; n = w.stamp.n; title = m.title; committed = e i }))
-placed-meeting ts w m (Some s) (Some c) mark seq e = λ i. Some (Cancelled (record { room = w.room; day = s.day; start = s.start; stop = s.start + m.length; server = w.stamp.server; n = w.stamp.n; title = m.title; committed = e i; by = c }))
+placed-meeting ts w m (Some s) None mark seq e =
+    λ i. Some (Booked (record { room = w.room; day = s.day; start = s.start; stop = s.start + m.length; server = w.stamp.server; n = w.stamp.n; title = m.title; committed = e i }))
+placed-meeting ts w m (Some s) (Some c) mark seq e =
+    λ i. Some (Cancelled (record { room = w.room; day = s.day; start = s.start; stop = s.start + m.length; server = w.stamp.server; n = w.stamp.n; title = m.title; committed = e i; by = c }))
 
-placed-row : (ts : List Tally) (w : Write) (a : Action) (p : Place) (by : Option Id) (mark : Bool) (seq : ℕ) → leb w.stamp.n (tally_at ts w.stamp.server).committed ≡ mark → kept_row (board_place ts) w (trace_for w a p by) ≡ if_placed (place_row_for w a p by mark seq)
+placed-row : (ts : List Tally) (w : Write) (a : Action) (p : Place) (by : Option Id) (mark : Bool) (seq : ℕ)
+    → leb w.stamp.n (tally_at ts w.stamp.server).committed ≡ mark → kept_row (board_place ts) w (trace_for w a p by) ≡ if_placed (place_row_for w a p by mark seq)
 placed-row ts w (Books m) p by mark seq e = placed-meeting ts w m (slot_at w p) by mark seq e
 placed-row ts w (Cancels t) (Taken k) by mark seq e = refl
 placed-row ts w (Cancels t) Logged by mark seq e = refl
@@ -161,7 +163,8 @@ rows_end r i h = go (known_or_none i r.known)
 
 -- ---- whether it is known
 
-booking_row-is : (w : Write) (room : Text) (a : Action) (p : Place) (by : Option Id) → is_booking_row_in room (option_map (λ k. record { room = w.room; trace = k }) (trace_for w a p by)) ≡ (bytes_eq w.room room && is_booking a)
+booking_row-is : (w : Write) (room : Text) (a : Action) (p : Place) (by : Option Id)
+    → is_booking_row_in room (option_map (λ k. record { room = w.room; trace = k }) (trace_for w a p by)) ≡ (bytes_eq w.room room && is_booking a)
 booking_row-is w room (Books m) p by = go (slot_at w p) by (bytes_eq w.room room)
   where
     go : (o : Option Slot) (by : Option Id) (b : Bool) → cond b (is_booking_trace (trace_with m o by)) false ≡ (b && true)
@@ -188,7 +191,7 @@ booking_row-is w room (Cancels t) p by = go p (bytes_eq w.room room)
     go Void b = other (bytes_eq w.room room)
 
 -- the board has the bookings that are known
-pub booking-known : (r : Replica) (room : Text) (i : Id) → IsReplica r → has_booking (board_of r) room i ≡ knows_booking r room i
+pub booking-known : (r : Replica) (room : Text) (i : Id) → IsReplica r → has_booking_on (board_of r) room i ≡ knows_booking r room i
 booking-known r room i h = go (known_or_none i r.known)
   where
     test : Write → Bool
@@ -217,13 +220,14 @@ booking-known r room i h = go (known_or_none i r.known)
             let same : v ≡ w = one_known r v w h c k (same_id-true (id_of v) i p.0 ∙ sym s) in
             true≢false (sym p.1 ∙ ap (λ (x : Write). bytes_eq x.room room && is_booking x.action) same ∙ e)
 
-    go : ((w : Write) × Has w r.known × (id_of w ≡ i)) ⊎ ((w : Write) → Has w r.known → id_of w ≡ i → ⊥) → has_booking (board_of r) room i ≡ list_any test r.known
+    go : ((w : Write) × Has w r.known × (id_of w ≡ i)) ⊎ ((w : Write) → Has w r.known → id_of w ≡ i → ⊥) → has_booking_on (board_of r) room i ≡ list_any test r.known
     go (inl (w, k, s)) =
         ap (λ j. is_booking_row_in room (row_at (board_of r) j)) (sym s) ∙ ap (is_booking_row_in room) (known_at r w h k)
         ∙ booking_row-is w room w.action (place_of r w) (canceller_of r w) ∙ found w k s (bytes_eq w.room room && is_booking w.action) refl
     go (inr none) =
         ap (is_booking_row_in room) (unknown_at r i none)
-        ∙ sym (false_from_ne_true (list_any test r.known) (λ t. let (v, c, f) = has_any test r.known t in none v c (same_id-true (id_of v) i (first (same_id (id_of v) i) (bytes_eq v.room room) (is_booking v.action) f))))
+        ∙ sym (false_from_ne_true (list_any test r.known) (λ t. let (v, c, f) = has_any test r.known t in
+        none v c (same_id-true (id_of v) i (first (same_id (id_of v) i) (bytes_eq v.room room) (is_booking v.action) f))))
       where
         first : (x y z : Bool) → (x && y && z) ≡ true → x ≡ true
         first true y z f = refl

@@ -36,12 +36,14 @@ counts_within ts k (suc n) few low top = go (eqb (tally_at ts k).count 0) refl (
     own : Count
     own = record { server = k; count = (tally_at ts k).count }
 
-    go : (b : Bool) → eqb (tally_at ts k).count 0 ≡ b → list_all (λ c. is_server c.server && is_count c.count) rest ≡ true → list_all (λ c. is_server c.server && is_count c.count) (cond b rest (own ∷ rest)) ≡ true
+    go : (b : Bool) → eqb (tally_at ts k).count 0 ≡ b → list_all (λ c. is_server c.server && is_count c.count) rest ≡ true
+        → list_all (λ c. is_server c.server && is_count c.count) (cond b rest (own ∷ rest)) ≡ true
     go true e all = all
     go false e all =
         let some = eqb-false (tally_at ts k).count 0 e in
         and_from (is_server k && is_count (tally_at ts k).count) (list_all (λ c. is_server c.server && is_count c.count) rest)
-        (and_from (is_server k) (is_count (tally_at ts k).count) (within_from 1 99 k low (omega (arith, top))) (within_from 1 greatest_count (tally_at ts k).count (omega (arith, some)) (few_at ts k few))) all
+        (and_from (is_server k) (is_count (tally_at ts k).count) (within_from 1 99 k low (omega (arith, top)))
+        (within_from 1 greatest_count (tally_at ts k).count (omega (arith, some)) (few_at ts k few))) all
 
 -- the servers of the counts come from k on
 counts_from : (ts : List Tally) (k n : ℕ) → AllByRecursion (λ c. k ≤ c.server) (counts_in ts (numbers_on k n))
@@ -52,7 +54,8 @@ counts_from ts k (suc n) = go (eqb (tally_at ts k).count 0) (weaken (counts_in t
     weaken [] all = tt
     weaken (c ∷ cs) all = let a : k + 1 ≤ c.server = all.0 in (omega (arith, a), weaken cs all.1)
 
-    go : (b : Bool) → AllByRecursion (λ c. k ≤ c.server) (counts_in ts (numbers_on (k + 1) n)) → AllByRecursion (λ c. k ≤ c.server) (cond b (counts_in ts (numbers_on (k + 1) n)) (record { server = k; count = (tally_at ts k).count } ∷ counts_in ts (numbers_on (k + 1) n)))
+    go : (b : Bool) → AllByRecursion (λ c. k ≤ c.server) (counts_in ts (numbers_on (k + 1) n))
+        → AllByRecursion (λ c. k ≤ c.server) (cond b (counts_in ts (numbers_on (k + 1) n)) (record { server = k; count = (tally_at ts k).count } ∷ counts_in ts (numbers_on (k + 1) n)))
     go true all = all
     go false all = (le_refl k, all)
 
@@ -60,7 +63,8 @@ counts_rise : (ts : List Tally) (k n : ℕ) → are_rising (counts_in ts (number
 counts_rise ts k zero = refl
 counts_rise ts k (suc n) = go (eqb (tally_at ts k).count 0) (counts_rise ts (k + 1) n)
   where
-    go : (b : Bool) → are_rising (counts_in ts (numbers_on (k + 1) n)) ≡ true → are_rising (cond b (counts_in ts (numbers_on (k + 1) n)) (record { server = k; count = (tally_at ts k).count } ∷ counts_in ts (numbers_on (k + 1) n))) ≡ true
+    go : (b : Bool) → are_rising (counts_in ts (numbers_on (k + 1) n)) ≡ true
+        → are_rising (cond b (counts_in ts (numbers_on (k + 1) n)) (record { server = k; count = (tally_at ts k).count } ∷ counts_in ts (numbers_on (k + 1) n))) ≡ true
     go true rise = rise
     go false rise = rising_on (record { server = k; count = (tally_at ts k).count }) (counts_in ts (numbers_on (k + 1) n)) (counts_from ts (k + 1) n) rise
 

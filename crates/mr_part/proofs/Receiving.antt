@@ -1,5 +1,6 @@
 -- Taking all items of a batch.
-use Rattle.std.proofs.Common.{◌≡◌, ℕ, zero, suc, ◌+◌, ◌-◌, ◌<◌, ◌≤◌, ◌==◌, cond, not, Some, Bool, true, false, List, [], ◌∷◌, ◌++◌, length, drop, get_or, Result, Ok, Err, ap, refl, sym, ◌∙◌, subst, arith, IsTrue}
+use Rattle.std.proofs.Common.{◌≡◌, ℕ, zero, suc, ◌+◌, ◌-◌, ◌<◌, ◌≤◌, ◌==◌, cond, not, Some, Bool, true, false, List, [], ◌∷◌}
+use Rattle.std.proofs.Common.{◌++◌, length, drop, get_or, Result, Ok, Err, ap, refl, sym, ◌∙◌, subst, arith, IsTrue}
 use Rattle.std.specs.List.{list_all, filter_map, slice_get}
 use Rattle.std.specs.Result.{is_ok}
 use Rattle.std.proofs.lemmas.Bool.{true≢false, and_parts, and_from}
@@ -74,7 +75,8 @@ write-brings line p q w sound good e = go (write_verdict line (summary_of p.repl
 
 -- what a commit brings
 commit-brings : (line : ℕ) (p q : Progress) (n : ℕ) (id : Id) → IsReplica p.replica → id.server < 100 → take_commit line p n id ≡ Ok q → Brings p q
-commit-brings line p q n id sound small e = go (commit_verdict line (summary_of p.replica) (is_that_id (slice_get p.replica.commits (n - 1)) id) n id) (judged_commit line p n id (is_that_id (slice_get p.replica.commits (n - 1)) id) sound small (λ low high. refl))
+commit-brings line p q n id sound small e = go (commit_verdict line (summary_of p.replica) (is_that_id (slice_get p.replica.commits (n - 1)) id) n id)
+    (judged_commit line p n id (is_that_id (slice_get p.replica.commits (n - 1)) id) sound small (λ low high. refl))
   where
     go : (v : Result Bool Refusal) → JudgedCommit line p n id v → Brings p q
     go (Ok true) j =
@@ -110,7 +112,8 @@ items-bring (x ∷ xs) line p q sound good e = go (take_item line p x) refl e (�
     parts : (is_item Second x ≡ true) × (list_all (is_item Second) xs ≡ true)
     parts = and_parts (is_item Second x) (list_all (is_item Second) xs) good
 
-    go : (o : Result Progress model.Refusal) → take_item line p x ≡ o → take_items xs (line + 1) o ≡ Ok q → ((m : Progress) → IsReplica m.replica → list_all (is_item Second) xs ≡ true → take_items xs (line + 1) (Ok m) ≡ Ok q → Brings m q) → Brings p q
+    go : (o : Result Progress model.Refusal) → take_item line p x ≡ o → take_items xs (line + 1) o ≡ Ok q
+        → ((m : Progress) → IsReplica m.replica → list_all (is_item Second) xs ≡ true → take_items xs (line + 1) (Ok m) ≡ Ok q → Brings m q) → Brings p q
     go (Ok m) t f rest = brings-more p m q (item-brings line p m x sound parts.0 t) (rest m (subst KeepsReplica t (item_keeps line p x sound (item-within x parts.0))) parts.1 f)
     go (Err r) t f rest = absurd (err≢ok r q f)
 
@@ -153,4 +156,5 @@ own_primary x p q other e f g = grind (arith, nat_tests)
 
 -- the step, where nothing refuses the batch as a whole
 pub receive_done : (a : Replica) (b : Batch) (h : Header) → b.header ≡ Some h → (h.primary == a.primary) ≡ true → receive_batch a b ≡ after_items a (take_items b.items 2 (Ok (nothing_taken a)))
-receive_done a b h header own = ap (λ o. receive_under a o b.items) header ∙ (λ t. step_unless a (only_if (not (own t)) model.WrongPrimary) (after_items a (take_items b.items 2 (Ok (nothing_taken a)))))
+receive_done a b h header own = ap (λ o. receive_under a o b.items) header
+    ∙ (λ t. step_unless a (only_if (not (own t)) model.WrongPrimary) (after_items a (take_items b.items 2 (Ok (nothing_taken a)))))

@@ -25,7 +25,9 @@ use Rattle.mr_part.specs.Parts.{PartView, kept_in, part_of}
 use Rattle.mr_part.proofs.Receiving.{items-bring}
 
 -- the answer is what the items give
-pub part_received : (a : Replica) (items : List Item) (part : PartView) (c : ReachedView) (q : Progress) (x : ℕ × ℕ × ChangeView) → IsReplica a → part ≡ part_of (OfItems items) a → list_all (is_item Second) items ≡ true → take_items items 2 (Ok (nothing_taken a)) ≡ Ok q → ShowsPicked a (is_inside a items) c q → x.0 ≡ length c.kept - length part.kept → x.1 ≡ c.summary.commits - part.summary.commits → changed x.2 (tables_of a) ≡ tables_of q.replica → AnswersItems a items (Ok x)
+pub part_received : (a : Replica) (items : List Item) (part : PartView) (c : ReachedView) (q : Progress) (x : ℕ × ℕ × ChangeView) → IsReplica a
+    → part ≡ part_of (OfItems items) a → list_all (is_item Second) items ≡ true → take_items items 2 (Ok (nothing_taken a)) ≡ Ok q → ShowsPicked a (is_inside a items) c q
+    → x.0 ≡ length c.kept - length part.kept → x.1 ≡ c.summary.commits - part.summary.commits → changed x.2 (tables_of a) ≡ tables_of q.replica → AnswersItems a items (Ok x)
 part_received a items part c q x sound is_part good taken shows writes commits turns =
     let step = ap (after_items a) taken in
     let brings = (items-bring items 2 (nothing_taken a) q sound good taken).commits in
@@ -38,7 +40,8 @@ part_received a items part c q x sound is_part good taken shows writes commits t
     inl ((λ i. Took (w i) (m i)) ∙ ap (λ (y : After). y.reply) (sym step), turns ∙ ap (λ (y : After). tables_of y.replica) (sym step))
 
 -- a batch that is refused changes nothing
-pub part_refused : (a : Replica) (items : List Item) (r : Result (ℕ × ℕ × ChangeView) Refusal) (e : Refusal) → r ≡ Err e → (take_items items 2 (Ok (nothing_taken a)) ≡ Err (refusal_of e)) ⊎ (e ≡ OutOfMemory) → AnswersItems a items r
+pub part_refused : (a : Replica) (items : List Item) (r : Result (ℕ × ℕ × ChangeView) Refusal) (e : Refusal) → r ≡ Err e
+    → (take_items items 2 (Ok (nothing_taken a)) ≡ Err (refusal_of e)) ⊎ (e ≡ OutOfMemory) → AnswersItems a items r
 part_refused a items r e p (inl t) = inl (
   ap (reply_with (λ (taken : ℕ × ℕ × ChangeView). Took taken.0 taken.1)) p ∙ ap (λ (x : After). x.reply) (sym (ap (after_items a) t)),
   subst (λ (y : Result (ℕ × ℕ × ChangeView) Refusal). IfOk y (λ taken. changed taken.2 (tables_of a) ≡ tables_of (after_items a (take_items items 2 (Ok (nothing_taken a)))).replica)) (sym p) tt,

@@ -17,7 +17,7 @@ use Rattle.mr_model.proofs.Members.{has_left, has_right, filter_has, map_has, no
 use Rattle.mr_model.proofs.Orders.{append_split}
 use Rattle.mr_model.proofs.PlacesOfOrder.{room-replay}
 use Rattle.mr_model.proofs.RoomsApart.{replay-append}
-use Rattle.mr_model.proofs.UniqueReplay.{length-replay, none_some}
+use Rattle.mr_model.proofs.UniqueReplay.{length-replay}
 use Rattle.mr_replay.specs.declared.rows.Standing.TheVariants.{Booked, CancelledBy, InErrorLog}
 use Rattle.mr_replay.specs.declared.rows.Trace.{Trace}
 use Rattle.mr_replay.specs.declared.rows.Trace.TheVariants.{OfBooking, OfCancel}
@@ -27,24 +27,16 @@ use Rattle.mr_replay.specs.Rows.{Rows, row_at, bookings_of, row_of, place_by_row
 use Rattle.mr_replay.specs.Holds.{HaveDistinctIds, told_list, row_in, bears, if_of}
 use Rattle.mr_replay.specs.Bookings.{if_taken, HasBookings}
 use Rattle.mr_replay.proofs.Entries.{IsInOrder}
-use Rattle.mr_replay.proofs.Lists.{one_name, same_name, other_name, distinct_front, distinct_next, distinct-part, part-own, part-other}
+use Rattle.mr_replay.proofs.Lists.{one_name, same_name, distinct_front, distinct_next, distinct-part, part-own, part-other}
 use Rattle.mr_replay.proofs.Marked.{change_if}
-use Rattle.mr_replay.proofs.OneRoom.{IsPart, taken_part, bookings_part, bears_not-taken, PartHas, part-executed, part-undone, part_has-executed, part_has-undone, takes_away, row-own, in_order-executed, in_order-undone, cancels_booked, row-other, target_row}
+use Rattle.mr_replay.proofs.OneRoom.{IsPart, taken_part, bookings_part, bears_not-taken, PartHas, part-executed, part-undone, part_has-executed, part_has-undone}
+use Rattle.mr_replay.proofs.OneRoom.{takes_away, row-own, in_order-executed, in_order-undone, cancels_booked, row-other, target_row, if_of-apart, apart_names}
 use Rattle.mr_replay.proofs.PlacesOnBoard.{place_by_bookings}
 use Rattle.mr_replay.proofs.ToldRows.{BearsNot, rows-none, rows-bear}
 use Rattle.mr_part.specs.Logged.{undo_with}
 use Rattle.mr_part.proofs.OrderNumbers.{order_distinct}
 
 -- ---- rows of rooms
-
--- a row of one room is of no other
-if_of-apart : (room other : Text) (o : Option Row) (row : Row) → if_of room o ≡ Some row → bytes_eq other room ≡ false → if_of other o ≡ None
-if_of-apart room other None row h e = refl
-if_of-apart room other (Some r) row h e = go (bytes_eq r.room room) refl h
-  where
-    go : (b : Bool) → bytes_eq r.room room ≡ b → cond b (Some r) None ≡ Some row → if_of other (Some r) ≡ None
-    go true is g = ap (λ t. cond t (Some r) None) (other_name r.room room other (one_name r.room room is) e)
-    go false is g = absurd (none_some row g)
 
 -- ---- what is looked at of a room
 
@@ -81,13 +73,6 @@ stays-unmarked c false o h = refl
 stays-unmarked c true None h = refl
 stays-unmarked c true (Some row) h = let kept = unmarked c row.trace h in λ i. Some (record { room = row.room; trace = kept i })
 
-apart_names : (room other : Text) → bytes_eq room other ≡ false → bytes_eq other room ≡ false
-apart_names room other e = go (bytes_eq other room) refl
-  where
-    go : (c : Bool) → bytes_eq other room ≡ c → c ≡ false
-    go false f = refl
-    go true f = absurd (true≢false (sym (same_name room other (sym (one_name other room f))) ∙ e))
-
 -- ---- a write of another room
 
 module _ (see : Text → Option Row → Option Row) (given : Option Row → Option Row) (v : IsView see given) where
@@ -101,7 +86,8 @@ module _ (see : Text → Option Row → Option Row) (given : Option Row → Opti
       go true e = sym (ap (λ j. see room (row_at b j)) (same_id-true q i e) ∙ none)
       go false e = refl
 
-  pub beside-executed : (room : Text) (ws : List Write) (b : Rows) (w : Write) → bytes_eq w.room room ≡ false → IsInOrder b → is_among (id_of w) (map id_of ws) ≡ false → PartHas (see room) given ws b → PartHas (see room) given ws (executed b w)
+  pub beside-executed : (room : Text) (ws : List Write) (b : Rows) (w : Write) → bytes_eq w.room room ≡ false → IsInOrder b
+      → is_among (id_of w) (map id_of ws) ≡ false → PartHas (see room) given ws b → PartHas (see room) given ws (executed b w)
   beside-executed room ws b w away ordered new has q =
       part-executed (see room) (v.part room) b w (place_by_rows b w) q none
       ∙ ap (λ o. cond (same_id q (id_of w)) o (change_if (with_mark (id_of w)) (cancels_it q w.action (place_by_rows b w)) (see room (row_at b q)))) (v.other room w (place_by_rows b w) away)
@@ -120,7 +106,8 @@ module _ (see : Text → Option Row → Option Row) (given : Option Row → Opti
           let away_too = v.apart w.room room (row_at b q) row at (apart_names w.room room away) in
           ap (change_if (with_mark (id_of w)) true) away_too ∙ sym away_too
 
-  pub beside-undone : (room : Text) (ws : List Write) (b : Rows) (w : Write) (p : Place) → IsInOrder b → is_among (id_of w) (map id_of ws) ≡ false → PartHas (see room) given ws b → PartHas (see room) given ws (undone b (undo_row_at w p))
+  pub beside-undone : (room : Text) (ws : List Write) (b : Rows) (w : Write) (p : Place) → IsInOrder b
+      → is_among (id_of w) (map id_of ws) ≡ false → PartHas (see room) given ws b → PartHas (see room) given ws (undone b (undo_row_at w p))
   beside-undone room ws b w p ordered new has q =
       part-undone (see room) (v.part room) b (id_of w) w.action p q ordered
       ∙ (λ t. cond (takes_away w.action p) (not_own room b (id_of w) q (gone room ws b (id_of w) new has) t) (stays-unmarked (id_of w) (cancels_it q w.action p) (see room (row_at b q)) bare t))
@@ -141,7 +128,8 @@ place_next : (r : Replica) (room : Text) (front rest : List Write) (w : Write) �
 place_next r room front rest w sound e =
     let all : map (place_of r) front ++ map (place_of r) (w ∷ rest) ≡ replay front ++ replay_among (after [] front) (w ∷ rest) =
     sym (map-append (place_of r) front (w ∷ rest)) ∙ ap (map (place_of r)) (sym e) ∙ room-replay r room sound ∙ ap replay e ∙ replay-append [] front (w ∷ rest) in
-    let behind = (append_split (map (place_of r) front) (replay front) (map (place_of r) (w ∷ rest)) (replay_among (after [] front) (w ∷ rest)) (length-map front (place_of r) ∙ sym (length-replay [] front)) all).1 in
+    let behind = (append_split (map (place_of r) front) (replay front) (map (place_of r) (w ∷ rest))
+    (replay_among (after [] front) (w ∷ rest)) (length-map front (place_of r) ∙ sym (length-replay [] front)) all).1 in
     let heads : place_of r w ∷ map (place_of r) rest ≡ place_among (after [] front) w ∷ replay_among (booked_with (after [] front) w (place_among (after [] front) w)) rest = behind in
     cc
 
@@ -187,7 +175,8 @@ module _ (r : Replica) (mine : Text → Bool) (front : Text → List Write) (ws 
       where
         clash : ((v : Write) × Has v (upto room done) × (id_of w ≡ id_of v)) → ⊥
         clash (v, h, s) =
-            let f = filter_has (λ (u : Write). bytes_eq u.room room) v (order_of r) (subst (λ vs. Has v vs) (sym (list room done (w ∷ rest) parts)) (has_left v (upto room done) (of_room room (w ∷ rest)) h)) in
+            let f = filter_has (λ (u : Write). bytes_eq u.room room) v (order_of r)
+            (subst (λ vs. Has v vs) (sym (list room done (w ∷ rest) parts)) (has_left v (upto room done) (of_room room (w ∷ rest)) h)) in
             let same : w ≡ v = one_known r w v last.sound (last.known w there) (order_known r v last.sound f.0) s in
             true≢false (sym (ap (λ (u : Write). bytes_eq u.room room) same ∙ f.1) ∙ other)
 
@@ -204,17 +193,20 @@ module _ (r : Replica) (mine : Text → Bool) (front : Text → List Write) (ws 
 
     -- ---- undone
 
-    undone-one : (done : List Write) (w : Write) (rest : List Write) (b : Rows) → done ++ w ∷ rest ≡ ws → IsInOrder b → HasAll (λ room. upto room (done ++ w ∷ [])) b → HasAll (λ room. upto room done) (undone b (undo_with (place_of r) w))
+    undone-one : (done : List Write) (w : Write) (rest : List Write) (b : Rows) → done ++ w ∷ rest ≡ ws → IsInOrder b
+        → HasAll (λ room. upto room (done ++ w ∷ [])) b → HasAll (λ room. upto room done) (undone b (undo_with (place_of r) w))
     undone-one done w rest b parts ordered has room m = by (bytes_eq w.room room) refl
       where
         by : (c : Bool) → bytes_eq w.room room ≡ c → PartHas (see room) given (upto room done) (undone b (undo_with (place_of r) w))
         by true e =
             let is = one_name w.room room e in
             subst (λ p. PartHas (see room) given (upto room done) (undone b (undo_row_at w p))) (sym (place done w rest parts room is))
-            (part_has-undone (see room) given (v.part room) v.given_part (upto room done) b w v.bearing ordered (distinct_next (upto room done) w (of_room room rest) (own_ids done w rest parts room is))
+            (part_has-undone (see room) given (v.part room) v.given_part (upto room done) b w v.bearing ordered
+            (distinct_next (upto room done) w (of_room room rest) (own_ids done w rest parts room is))
             (subst (λ (vs : List Write). PartHas (see room) given vs b) (more done w rest parts room is) (has room m)))
         by false e =
-            beside-undone see given v room (upto room done) b w (place_of r w) ordered (new done w rest parts room e) (subst (λ (vs : List Write). PartHas (see room) given vs b) (same done w rest parts room e) (has room m))
+            beside-undone see given v room (upto room done) b w (place_of r w) ordered (new done w rest parts room e)
+            (subst (λ (vs : List Write). PartHas (see room) given vs b) (same done w rest parts room e) (has room m))
 
     in_order-rows : (vs : List Write) (b : Rows) → IsInOrder b → IsInOrder (undone_all b (rows vs))
     in_order-rows [] b h = h
@@ -227,17 +219,21 @@ module _ (r : Replica) (mine : Text → Bool) (front : Text → List Write) (ws 
 
     -- once the last ones are undone, the last of all first, each room has what its first ones give
     pub rows-undone : (b : Rows) → IsInOrder b → HasAll (λ room. front room ++ of_room room ws) b → HasAll front (undone_all b (rows ws)) × IsInOrder (undone_all b (rows ws))
-    rows-undone b ordered has =
-        (λ room m. subst (λ (vs : List Write). PartHas (see room) given vs (undone_all b (rows ws))) (append-nil (front room)) (undone-rest [] ws b refl ordered has room m), in_order-rows ws b ordered)
+    rows-undone b ordered has = (
+      λ room m. subst (λ (vs : List Write). PartHas (see room) given vs (undone_all b (rows ws))) (append-nil (front room)) (undone-rest [] ws b refl ordered has room m),
+      in_order-rows ws b ordered,
+    )
 
     -- ---- executed
 
-    place-here : (done : List Write) (w : Write) (rest : List Write) (b : Rows) → done ++ w ∷ rest ≡ ws → IsInOrder b → HasAll (λ room. upto room done) b → place_by_rows b w ≡ place_among (after [] (upto w.room done)) w
+    place-here : (done : List Write) (w : Write) (rest : List Write) (b : Rows) → done ++ w ∷ rest ≡ ws → IsInOrder b
+        → HasAll (λ room. upto room done) b → place_by_rows b w ≡ place_among (after [] (upto w.room done)) w
     place-here done w rest b parts ordered has =
         place_by_bookings w.room (upto w.room done) b w refl ordered (distinct_front (upto w.room done) (w ∷ of_room w.room rest) (own_ids done w rest parts w.room refl))
         (v.bookings w.room (upto w.room done) b (has w.room (last.mine_all w (there done w rest parts))))
 
-    executed-one : (done : List Write) (w : Write) (rest : List Write) (b : Rows) → done ++ w ∷ rest ≡ ws → IsInOrder b → HasAll (λ room. upto room done) b → HasAll (λ room. upto room (done ++ w ∷ [])) (executed b w)
+    executed-one : (done : List Write) (w : Write) (rest : List Write) (b : Rows) → done ++ w ∷ rest ≡ ws
+        → IsInOrder b → HasAll (λ room. upto room done) b → HasAll (λ room. upto room (done ++ w ∷ [])) (executed b w)
     executed-one done w rest b parts ordered has room m = by (bytes_eq w.room room) refl
       where
         by : (c : Bool) → bytes_eq w.room room ≡ c → PartHas (see room) given (upto room (done ++ w ∷ [])) (executed b w)
@@ -251,13 +247,16 @@ module _ (r : Replica) (mine : Text → Bool) (front : Text → List Write) (ws 
             subst (λ (vs : List Write). PartHas (see room) given vs (executed b w)) (sym (same done w rest parts room e))
             (beside-executed see given v room (upto room done) b w e ordered (new done w rest parts room e) (has room m))
 
-    executed-rest : (done rest : List Write) (b : Rows) → done ++ rest ≡ ws → IsInOrder b → HasAll (λ room. upto room done) b → (map (λ u. u.place) (undo_rows_of b rest) ≡ map (place_of r) rest) × HasAll (λ room. upto room ws) (executed_all b rest) × IsInOrder (executed_all b rest)
+    executed-rest : (done rest : List Write) (b : Rows) → done ++ rest ≡ ws → IsInOrder b → HasAll (λ room. upto room done) b
+        → (map (λ u. u.place) (undo_rows_of b rest) ≡ map (place_of r) rest) × HasAll (λ room. upto room ws) (executed_all b rest) × IsInOrder (executed_all b rest)
     executed-rest done [] b parts ordered has = (refl, subst (λ (vs : List Write). HasAll (λ room. upto room vs) b) (sym (append-nil done) ∙ parts) has, ordered)
     executed-rest done (w ∷ rest) b parts ordered has =
         let here : place_by_rows b w ≡ place_of r w = place-here done w rest b parts ordered has ∙ sym (place done w rest parts w.room refl) in
-        let later = executed-rest (done ++ w ∷ []) rest (executed b w) (append_assoc done (w ∷ []) rest ∙ parts) (in_order-executed b w (place_by_rows b w) ordered) (executed-one done w rest b parts ordered has) in
+        let later = executed-rest (done ++ w ∷ []) rest (executed b w) (append_assoc done (w ∷ []) rest ∙ parts)
+        (in_order-executed b w (place_by_rows b w) ordered) (executed-one done w rest b parts ordered has) in
         (λ t. here t ∷ later.0 t, later.1, later.2)
 
     -- executed behind the first ones, the last ones get the places that the replica gives them, and each room has what all of it gives
-    pub rows-executed : (b : Rows) → IsInOrder b → HasAll front b → (map (λ u. u.place) (undo_rows_of b ws) ≡ map (place_of r) ws) × HasAll (λ room. front room ++ of_room room ws) (executed_all b ws) × IsInOrder (executed_all b ws)
+    pub rows-executed : (b : Rows) → IsInOrder b → HasAll front b → (map (λ u. u.place) (undo_rows_of b ws) ≡ map (place_of r) ws)
+        × HasAll (λ room. front room ++ of_room room ws) (executed_all b ws) × IsInOrder (executed_all b ws)
     rows-executed b ordered has = executed-rest [] ws b refl ordered (λ room m. subst (λ (vs : List Write). PartHas (see room) given vs b) (sym (append-nil (front room))) (has room m))

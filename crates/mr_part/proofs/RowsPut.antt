@@ -1,5 +1,6 @@
 -- The rows that a change puts: of writes that follow each other in the order, of older ones, and of servers whose counts are others now.
-use Rattle.std.proofs.Common.{◌≡◌, refl, sym, ap, ◌∙◌, subst, ℕ, zero, suc, ◌+◌, ◌<◌, ◌≤◌, Bool, true, false, not, cond, ◌&&◌, eqb, leb, ltb, List, [], ◌∷◌, ◌++◌, length, map, ◌⊎◌, inl, inr, Option, Some, arith, append_assoc, append-nil, eqb-true}
+use Rattle.std.proofs.Common.{◌≡◌, refl, sym, ap, ◌∙◌, subst, ℕ, zero, suc, ◌+◌, ◌<◌, ◌≤◌, Bool, true, false, not, cond, ◌&&◌, eqb, leb, ltb}
+use Rattle.std.proofs.Common.{List, [], ◌∷◌, ◌++◌, length, map, ◌⊎◌, inl, inr, Option, Some, arith, append_assoc, append-nil, eqb-true}
 use Rattle.std.proofs.lemmas.Bool.{and_parts, cond-false, false_from_ne_true}
 use Rattle.std.proofs.lemmas.List.{map-append}
 use Rattle.std.specs.Prelude.{flat_map}
@@ -30,7 +31,8 @@ use Rattle.mr_part.specs.Placing.{with_places_put}
 use Rattle.mr_part.proofs.MovedTables.{Moves, change_of, moves, vectors_move}
 
 -- rows of places come behind those that were put
-pub places-put : (meta : MetaRow) (rooms : List Text) (vector : List VectorRow) (log : List LogRow) (ps qs : List PlaceRow) → with_places_put (with_places meta rooms vector log ps) qs ≡ with_places meta rooms vector log (ps ++ qs)
+pub places-put : (meta : MetaRow) (rooms : List Text) (vector : List VectorRow) (log : List LogRow) (ps qs : List PlaceRow)
+    → with_places_put (with_places meta rooms vector log ps) qs ≡ with_places meta rooms vector log (ps ++ qs)
 places-put meta rooms vector log ps [] = ap (with_places meta rooms vector log) (sym (append-nil ps))
 places-put meta rooms vector log ps (q ∷ qs) =
     ap (λ c. with_places_put c qs) (place-push meta rooms vector log ps q)
@@ -80,7 +82,8 @@ places_told r k by (w ∷ ws) low n same =
     let rest = places_told r (k + 1) by ws (omega (arith, low)) (numbered_rest r k w ws n) (λ v h. same v (inr h)) in
     λ i. row i ∷ rest i
 
-pub written_told : (r : Replica) (k : ℕ) (by : Write → Option Id) (ws : List Write) (rooms : List Text) (vector : List VectorRow) → 1 ≤ k → AreNumbered r k ws → ((w : Write) → Has w ws → GiveRow r by w)
+pub written_told : (r : Replica) (k : ℕ) (by : Write → Option Id) (ws : List Write) (rooms : List Text) (vector : List VectorRow)
+    → 1 ≤ k → AreNumbered r k ws → ((w : Write) → Has w ws → GiveRow r by w)
     → written (tables_of r).meta rooms vector (length r.commits) k ws (map (undo_with (place_of r)) ws) (map by ws) ≡ change_of r ws ws rooms vector
 written_told r k by ws rooms vector low n same =
     let logs = logs_told r k ws n in
@@ -116,8 +119,10 @@ write_of_row r rows olds w h known there =
 -- ---- the change
 
 -- where all others keep their rows, these make the tables of the one replica those of the other
-pub put_makes : (a b : Replica) (k : ℕ) (by : Write → Option Id) (ws : List Write) (older : List PlaceRow) (rooms : List Text) (vector : List VectorRow) → 1 ≤ k → AreNumbered b k ws → ((w : Write) → Has w ws → GiveRow b by w)
-    → IsReplica a → IsReplica b → (olds : AreOf b older) → Moves a b ws (ws ++ olds.writes) → put_all text_before (λ name. name) rooms a.rooms ≡ b.rooms → put_all ltb (λ (row : VectorRow). row.server) vector (tables_of a).vector ≡ (tables_of b).vector
+pub put_makes : (a b : Replica) (k : ℕ) (by : Write → Option Id) (ws : List Write) (older : List PlaceRow) (rooms : List Text) (vector : List VectorRow)
+    → 1 ≤ k → AreNumbered b k ws → ((w : Write) → Has w ws → GiveRow b by w)
+    → IsReplica a → IsReplica b → (olds : AreOf b older) → Moves a b ws (ws ++ olds.writes) → put_all text_before (λ name. name) rooms a.rooms ≡ b.rooms
+    → put_all ltb (λ (row : VectorRow). row.server) vector (tables_of a).vector ≡ (tables_of b).vector
     → changed (with_places_put (written (tables_of b).meta rooms vector (length b.commits) k ws (map (undo_with (place_of b)) ws) (map by ws)) older) (tables_of a) ≡ tables_of b
 put_makes a b k by ws older rooms vector low n same ha hb olds m e f =
     (λ i. changed (with_places_put (written_told b k by ws rooms vector low n same i) (sym olds.rows_are i)) (tables_of a))
@@ -137,7 +142,8 @@ same_tally-true t u h =
     let committed = eqb-true t.committed u.committed p.1 in
     λ i. record { count = count i; last_time = last i; committed = committed i }
 
-tally_row : (ts : List Tally) (s : ℕ) (t : Tally) → tally_at ts s ≡ t → tally_rows ts s ≡ cond (eqb t.count 0) [] (record { server = s; count = t.count; last_time = t.last_time; committed = t.committed } ∷ [])
+tally_row : (ts : List Tally) (s : ℕ) (t : Tally) → tally_at ts s ≡ t
+    → tally_rows ts s ≡ cond (eqb t.count 0) [] (record { server = s; count = t.count; last_time = t.last_time; committed = t.committed } ∷ [])
 tally_row ts s t e = λ i. cond (eqb (e i).count 0) [] (record { server = s; count = (e i).count; last_time = (e i).last_time; committed = (e i).committed } ∷ [])
 
 numbers_below : (m k n : ℕ) → Has m (numbers_on k n) → m < k + n
@@ -172,7 +178,8 @@ between a b = flat_map_same (λ s. cond (same_tally (tally_at old s) (tally_at n
         let row = tally_row new s (tally_of b s) q in
         λ i. cond (same_tally (p i) (q i)) [] (row i)
 
-pub tallies_move : (a b : Replica) → IsReplica a → IsReplica b → ((w : Write) → Has w a.known → Has w b.known) → put_all ltb (λ (row : VectorRow). row.server) (vector_between a b) (tables_of a).vector ≡ (tables_of b).vector
+pub tallies_move : (a b : Replica) → IsReplica a → IsReplica b → ((w : Write) → Has w a.known → Has w b.known)
+    → put_all ltb (λ (row : VectorRow). row.server) (vector_between a b) (tables_of a).vector ≡ (tables_of b).vector
 tallies_move a b ha hb stays =
     ap (λ rows. put_all ltb (λ (row : VectorRow). row.server) rows (tables_of a).vector) (between a b)
     ∙ vectors_move a b (flat_map (rows_between a b) (numbers_on 1 99)) ha hb stays new others
@@ -190,7 +197,8 @@ tallies_move a b ha hb stays =
     others s low high ne = go (same_tally (tally_of a s) (tally_of b s)) refl
       where
         entry : Has (vector_entry b s) (vector_row b s)
-        entry = subst (λ rows. Has (vector_entry b s) rows) (sym (cond-false (eqb (count_of b s) 0) [] (vector_entry b s ∷ []) (false_from_ne_true (eqb (count_of b s) 0) (λ z. ne (eqb-true (count_of b s) 0 z))))) (inl refl)
+        entry = subst (λ rows. Has (vector_entry b s) rows)
+            (sym (cond-false (eqb (count_of b s) 0) [] (vector_entry b s ∷ []) (false_from_ne_true (eqb (count_of b s) 0) (λ z. ne (eqb-true (count_of b s) 0 z))))) (inl refl)
 
         go : (t : Bool) → same_tally (tally_of a s) (tally_of b s) ≡ t → Has (vector_entry b s) (flat_map (rows_between a b) (numbers_on 1 99)) ⊎ (vector_entry a s ≡ vector_entry b s)
         go true e = inr (ap (λ (t : Tally). record { server = s; count = t.count; last_time = t.last_time; committed = t.committed }) (same_tally-true (tally_of a s) (tally_of b s) e))

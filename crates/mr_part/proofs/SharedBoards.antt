@@ -11,7 +11,8 @@ use Rattle.mr_model.specs.Exchange.{Item, W, C}
 use Rattle.mr_model.specs.Dropped.{Has}
 use Rattle.mr_model.specs.Queries.{log_id}
 use Rattle.mr_model.specs.Replica.{Replica, IsReplica, is_among}
-use Rattle.mr_model.specs.Scopes.{Scope, Nothing, InRoom, OfTarget, NextCommits, UpTo, Above, OfItems, in_scope, item_id, has_number, is_named, is_tentative, is_in_tail, is_touched, rooms_of_item, touched_rooms}
+use Rattle.mr_model.specs.Scopes.{Scope, Nothing, InRoom, OfTarget, NextCommits, UpTo, Above, OfItems, in_scope, item_id}
+use Rattle.mr_model.specs.Scopes.{has_number, is_named, is_tentative, is_in_tail, is_touched, rooms_of_item, touched_rooms}
 use Rattle.mr_model.specs.Tables.{LogRow, Tables, tables_of}
 use Rattle.mr_model.proofs.Members.{has_among, has_map, same_id-true}
 use Rattle.mr_replay.specs.declared.rows.Row.{Row}
@@ -24,7 +25,8 @@ use Rattle.mr_tables.specs.Boards.{board_of}
 use Rattle.mr_part.specs.Parts.{HasRowsButBookings, goes_by_rooms}
 use Rattle.mr_part.specs.RowTests.{rooms_wanted}
 use Rattle.mr_part.specs.Sets.{IsSetOf}
-use Rattle.mr_part.proofs.PartBoards.{if_picked, is_in_part, part-row, board_in_order}
+use Rattle.mr_part.proofs.PartBoards.{if_picked, is_in_part, part-row}
+use Rattle.mr_tables.proofs.BoardChanged.{board_in_order}
 
 -- ---- the rooms that a batch touches are told by the rows of log that it names, which are in scope
 
@@ -48,7 +50,8 @@ rooms_of_named t items (C seq id) h = ap (λ rows. cond (ltb t.meta.commits seq)
 
     named : (row : LogRow) → same_id (log_id row) id ≡ true → test row ≡ true
     named row e =
-        let among : is_among (log_id row) (map item_id items) ≡ true = ap (λ i. is_among i (map item_id items)) (same_id-true (log_id row) id e) ∙ has_among id (map item_id items) (has_map item_id (C seq id) items h) in
+        let among : is_among (log_id row) (map item_id items) ≡ true = ap (λ i. is_among i (map item_id items)) (same_id-true (log_id row) id e)
+        ∙ has_among id (map item_id items) (has_map item_id (C seq id) items h) in
         ap (λ c. (c || (not (is_tentative row) && list_any (has_number row.seq) items)) || (is_in_tail t.meta.commits items row && is_touched t items row.room)) among
 
 same_rooms : (f g : Item → List Text) (xs : List Item) → ((x : Item) → Has x xs → f x ≡ g x) → flat_map f xs ≡ flat_map g xs

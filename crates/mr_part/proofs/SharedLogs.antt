@@ -16,7 +16,8 @@ all_above a =
     ap (λ n. drop n (kept_committed a) ++ tentative a) none
 
 -- those behind the commits up to a number are the ones above it
-pub above_seen : (a : Replica) (commits first : ℕ) → IsReplica a → first ≡ min (commits - a.dropped) (length a.commits - a.dropped) → drop first (map (kept_row a) (kept_in_order a)) ≡ map (kept_row a) (kept_in (Above commits) a)
+pub above_seen : (a : Replica) (commits first : ℕ) → IsReplica a → first ≡ min (commits - a.dropped) (length a.commits - a.dropped)
+    → drop first (map (kept_row a) (kept_in_order a)) ≡ map (kept_row a) (kept_in (Above commits) a)
 above_seen a commits first sound is =
     let long = kept_committed_long a sound in
     let len : length a.commits - a.dropped ≡ length (kept_committed a) = omega (arith, long) in

@@ -46,7 +46,8 @@ target_is id (Cancels t) e = ap Cancels (sym (same_id-true id t e))
 none_cancels : (id : Id) (bs : List Booking) (ws : List Write) → ((c : Write) → Has c ws → is_target id c.action ≡ false) → cancel_of id (placed_among false bs ws) ≡ None
 none_cancels id bs [] none = refl
 none_cancels id bs (w ∷ ws) none =
-    cond-false (cancels_it id w.action (place_among bs w)) (Some (record { write = w; is_committed = false; place = place_among bs w })) (cancel_of id (placed_among false (booked_with bs w (place_among bs w)) ws))
+    cond-false (cancels_it id w.action (place_among bs w)) (Some (record { write = w; is_committed = false; place = place_among bs w }))
+    (cancel_of id (placed_among false (booked_with bs w (place_among bs w)) ws))
     (cancels_target id w.action (place_among bs w) (none w (inl refl)))
     ∙ none_cancels id (booked_with bs w (place_among bs w)) ws (λ c h. none c (inr h))
 
@@ -55,7 +56,8 @@ or_none None = refl
 or_none (Some p) = refl
 
 -- then it is the one among the writes in front of them
-canceller-front : (r : Replica) (w : Write) (front last : List Write) → IsReplica r → Has w r.known → of_room w.room (order_of r) ≡ front ++ last → ((c : Write) → Has c last → is_target (id_of w) c.action ≡ false) → canceller_of r w ≡ option_map placed_id (cancel_of (id_of w) (placed_among false [] front))
+canceller-front : (r : Replica) (w : Write) (front last : List Write) → IsReplica r → Has w r.known → of_room w.room (order_of r) ≡ front ++ last
+    → ((c : Write) → Has c last → is_target (id_of w) c.action ≡ false) → canceller_of r w ≡ option_map placed_id (cancel_of (id_of w) (placed_among false [] front))
 canceller-front r w front last sound known parts none =
     canceller-order r w sound known
     ∙ ap (option_map placed_id)
@@ -100,7 +102,8 @@ module _ (a b : Replica) (items : List Item) (m : BatchMoves a b items) (sound :
 -- ---- rows of what became of a write
 
 -- a booking that took no slot, and a cancel, have the same row whatever took them back
-pub rows_unless : (w : Write) (x : Action) (p : Place) (by other : Option Id) (mark : Bool) (seq : ℕ) → ((m : Meeting) (s : Slot) → x ≡ Books m → slot_at w p ≡ Some s → by ≡ other) → place_row_for w x p by mark seq ≡ place_row_for w x p other mark seq
+pub rows_unless : (w : Write) (x : Action) (p : Place) (by other : Option Id) (mark : Bool) (seq : ℕ)
+    → ((m : Meeting) (s : Slot) → x ≡ Books m → slot_at w p ≡ Some s → by ≡ other) → place_row_for w x p by mark seq ≡ place_row_for w x p other mark seq
 rows_unless w (Books m) p by other mark seq same = go (slot_at w p) refl
   where
     go : (o : Option Slot) → slot_at w p ≡ o → booking_place_row w m o by mark seq ≡ booking_place_row w m o other mark seq
@@ -109,7 +112,8 @@ rows_unless w (Books m) p by other mark seq same = go (slot_at w p) refl
 rows_unless w (Cancels t) p by other mark seq same = refl
 
 -- at one place and with one number, it has one row, where one cancel took it back
-pub row_stays : (a b : Replica) (w : Write) → place_of a w ≡ place_of b w → seq_of a w ≡ seq_of b w → ((m : Meeting) (s : Slot) → w.action ≡ Books m → slot_at w (place_of b w) ≡ Some s → canceller_of a w ≡ canceller_of b w) → place_row a w ≡ place_row b w
+pub row_stays : (a b : Replica) (w : Write) → place_of a w ≡ place_of b w → seq_of a w ≡ seq_of b w
+    → ((m : Meeting) (s : Slot) → w.action ≡ Books m → slot_at w (place_of b w) ≡ Some s → canceller_of a w ≡ canceller_of b w) → place_row a w ≡ place_row b w
 row_stays a b w p q same =
     let mark : is_committed a (id_of w) ≡ is_committed b (id_of w) = committed-seq a w ∙ ap (λ n. not (eqb n 0)) q ∙ sym (committed-seq b w) in
     (λ i. place_row_for w w.action (p i) (canceller_of a w) (mark i) (q i))

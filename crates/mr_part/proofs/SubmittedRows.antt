@@ -24,14 +24,14 @@ use Rattle.mr_tables.specs.Written.{with_places, written}
 use Rattle.mr_tables.proofs.BoardsTold.{known_or_none, unknown_at}
 use Rattle.mr_part.proofs.RowsPut.{vector_between, tallies_of, places-put, written_told}
 use Rattle.mr_part.specs.Answering.{put_outcome, put_cancel_outcome}
-use Rattle.mr_part.specs.Placing.{with_places_put, board_place, taken_row, taken_on, taken_rows_of, taken_rows}
+use Rattle.mr_part.specs.Placing.{with_places_put, board_place, row_taken_back, taken_on, taken_rows_of, taken_rows}
 use Rattle.mr_part.proofs.Placings.{if_placed, placed-here, board_of, of_row}
 use Rattle.mr_part.proofs.Changing.{submit_given, GivesRows, last_numbered}
 use Rattle.mr_model.proofs.SubmitRows.{submit_changes}
 use Rattle.mr_model.proofs.WithWrite.{has_with_write}
 use Rattle.mr_part.specs.Logged.{undo_with}
 
-taken_on-row : (ts : List Tally) (by target : Id) (o : Option Row) → taken_on ts by target o ≡ taken_row by (of_row (board_place ts) target o)
+taken_on-row : (ts : List Tally) (by target : Id) (o : Option Row) → taken_on ts by target o ≡ row_taken_back by (of_row (board_place ts) target o)
 taken_on-row ts by target None = refl
 taken_on-row ts by target (Some row) = refl
 
@@ -61,7 +61,8 @@ module _ (a : Replica) (w : Write) (sound : IsReplica a) (next : IsNext a w) (la
     has_others = λ v k. inl (sym (others_stay a w sound next late v k (none v k)));
   }
 
-  one : (v : Write) (given : List PlaceRow) → Has v a.known → ((u : Write) → Has u a.known → takes_back a w (id_of u) ≡ true → u ≡ v) → given ≡ place_row (add_write a w) v ∷ [] → GivesRows a (add_write a w) given
+  one : (v : Write) (given : List PlaceRow) → Has v a.known → ((u : Write) → Has u a.known → takes_back a w (id_of u) ≡ true → u ≡ v)
+      → given ≡ place_row (add_write a w) v ∷ [] → GivesRows a (add_write a w) given
   one v given k only e = subst (GivesRows a (add_write a w)) (sym e) (record {
     are_rows = λ row h. of_one row h;
     has_others = λ u h. other u h (takes_back a w (id_of u)) refl;
@@ -71,7 +72,8 @@ module _ (a : Replica) (w : Write) (sound : IsReplica a) (next : IsNext a w) (la
       of_one row (inl s) = (v, has_with_write w v a.known (inr k), s)
       of_one row (inr h) = absurd h
 
-      other : (u : Write) → Has u a.known → (t : Bool) → takes_back a w (id_of u) ≡ t → (canceller_of a u ≡ canceller_of (add_write a w) u) ⊎ Has (place_row (add_write a w) u) (place_row (add_write a w) v ∷ [])
+      other : (u : Write) → Has u a.known → (t : Bool) → takes_back a w (id_of u) ≡ t
+          → (canceller_of a u ≡ canceller_of (add_write a w) u) ⊎ Has (place_row (add_write a w) u) (place_row (add_write a w) v ∷ [])
       other u g false t = inl (sym (others_stay a w sound next late u g t))
       other u g true t = inr (inl (ap (place_row (add_write a w)) (only u g t)))
 
@@ -80,11 +82,12 @@ module _ (a : Replica) (w : Write) (sound : IsReplica a) (next : IsNext a w) (la
   taken-known v t k s e =
       let (row, p, q) = row_taken a w sound next late v k e in
       taken_on-row (tallies_of a) (id_of w) t (row_at (board_of a) t)
-      ∙ ap (λ i. taken_row (id_of w) (of_row (board_place (tallies_of a)) i (row_at (board_of a) i))) (sym s)
-      ∙ ap (taken_row (id_of w)) (placed-here a v sound k ∙ ap if_placed p)
+      ∙ ap (λ i. row_taken_back (id_of w) (of_row (board_place (tallies_of a)) i (row_at (board_of a) i))) (sym s)
+      ∙ ap (row_taken_back (id_of w)) (placed-here a v sound k ∙ ap if_placed p)
       ∙ ap (λ r. r ∷ []) (sym {a = place_row (add_write a w) v} q)
 
-  taken_at : (x : Action) (p : Place) → w.action ≡ x → place_of (add_write a w) w ≡ p → GivesRows a (add_write a w) (taken_rows_of (tallies_of a) (board_of a) (id_of w) (taken_back_by p (target_of x)))
+  taken_at : (x : Action) (p : Place) → w.action ≡ x → place_of (add_write a w) w ≡ p
+      → GivesRows a (add_write a w) (taken_rows_of (tallies_of a) (board_of a) (id_of w) (taken_back_by p (target_of x)))
   taken_at (Books m) p e f =
       subst (GivesRows a (add_write a w)) (sym (booking_takes (tallies_of a) (board_of a) (id_of w) p))
       (nothing (λ v k. ap (λ x. cancels_it (id_of v) x (place_of (add_write a w) w)) e))
@@ -112,13 +115,16 @@ module _ (a : Replica) (w : Write) (sound : IsReplica a) (next : IsNext a w) (la
   submit_turns = submit_given a w (taken_rows (tallies_of a) (board_of a) (undo_with (place_of (add_write a w)) w)) sound next late known (taken_at w.action (place_of (add_write a w) w) refl refl)
 
   -- the row of the write comes first
-  puts-rows : last_put a w ≡ with_places (tables_of (add_write a w)).meta [] (vector_between a (add_write a w)) (log_row (add_write a w) w ∷ []) (place_row (add_write a w) w ∷ taken_rows (tallies_of a) (board_of a) (undo_with (place_of (add_write a w)) w))
+  puts-rows : last_put a w ≡ with_places (tables_of (add_write a w)).meta [] (vector_between a (add_write a w)) (log_row (add_write a w) w ∷ [])
+      (place_row (add_write a w) w ∷ taken_rows (tallies_of a) (board_of a) (undo_with (place_of (add_write a w)) w))
   puts-rows =
       let b = add_write a w in
       let given = taken_rows (tallies_of a) (board_of a) (undo_with (place_of b) w) in
       let number = length a.commits + 1 in
-      (λ i. with_places_put (written (tables_of b).meta [] (vector_between a b) (length a.commits) number (w ∷ []) (undo_with (place_of b) w ∷ []) (sym (stands_itself a w sound next late) i ∷ [])) given)
-      ∙ ap (λ c. with_places_put c given) (written_told b number (canceller_of b) (w ∷ []) [] (vector_between a b) (omega arith) (last_numbered a w (submit_changes a w sound next late known)) (λ v h. refl))
+      (λ i. with_places_put
+      (written (tables_of b).meta [] (vector_between a b) (length a.commits) number (w ∷ []) (undo_with (place_of b) w ∷ []) (sym (stands_itself a w sound next late) i ∷ [])) given)
+      ∙ ap (λ c. with_places_put c given)
+      (written_told b number (canceller_of b) (w ∷ []) [] (vector_between a b) (omega arith) (last_numbered a w (submit_changes a w sound next late known)) (λ v h. refl))
       ∙ places-put (tables_of b).meta [] (vector_between a b) (log_row b w ∷ []) (place_row b w ∷ []) given
 
   is_known : Has w (add_write a w).known
@@ -135,9 +141,11 @@ module _ (a : Replica) (w : Write) (sound : IsReplica a) (next : IsNext a w) (la
       ∙ sym (λ i. put_outcome (puts-rows i).booking (puts-rows i).errorlog)
     where
       none : taken_rows (tallies_of a) (board_of a) (undo_with (place_of (add_write a w)) w) ≡ []
-      none = ap (λ x. taken_rows_of (tallies_of a) (board_of a) (id_of w) (taken_back_by (place_of (add_write a w) w) (target_of x))) e ∙ booking_takes (tallies_of a) (board_of a) (id_of w) (place_of (add_write a w) w)
+      none = ap (λ x. taken_rows_of (tallies_of a) (board_of a) (id_of w) (taken_back_by (place_of (add_write a w) w) (target_of x))) e
+          ∙ booking_takes (tallies_of a) (board_of a) (id_of w) (place_of (add_write a w) w)
 
-      go : (o : Option Slot) → place_row (add_write a w) w ≡ booking_place_row w m o None (is_committed (add_write a w) (id_of w)) (seq_of (add_write a w) w) → outcome_at (add_write a w) w ≡ put_outcome (filter_map as_booking (place_row (add_write a w) w ∷ [])) (filter_map as_error (place_row (add_write a w) w ∷ []))
+      go : (o : Option Slot) → place_row (add_write a w) w ≡ booking_place_row w m o None (is_committed (add_write a w) (id_of w)) (seq_of (add_write a w) w)
+          → outcome_at (add_write a w) w ≡ put_outcome (filter_map as_booking (place_row (add_write a w) w ∷ [])) (filter_map as_error (place_row (add_write a w) w ∷ []))
       go None q = (replies_tell (add_write a w) w sound' is_known).1 _ (ap as_error q) ∙ (λ i. put_outcome (cons_option (as_booking (sym q i)) []) (cons_option (as_error (sym q i)) []))
       go (Some s) q = (replies_tell (add_write a w) w sound' is_known).0 _ (ap as_booking q) ∙ (λ i. put_outcome (cons_option (as_booking (sym q i)) []) (cons_option (as_error (sym q i)) []))
 

@@ -55,7 +55,8 @@ accepts a make sound = subst (Accepts a make (stamp_step a make)) (sym stamp) (g
     stamp_at : Bool → Bool → Result Stamp Refusal
     stamp_at b c = cond b (Err ClockExhausted) (cond c (Err CountExhausted) (Ok (next_stamp a)))
 
-    go : (b : Bool) → (clock_of a == greatest_time) ≡ b → (c : Bool) → (count_of a a.server == greatest_count) ≡ c → Accepts a make (stamp_step a make) (stamp_at (clock_of a == greatest_time) (count_of a a.server == greatest_count))
+    go : (b : Bool) → (clock_of a == greatest_time) ≡ b → (c : Bool) → (count_of a a.server == greatest_count) ≡ c
+        → Accepts a make (stamp_step a make) (stamp_at (clock_of a == greatest_time) (count_of a a.server == greatest_count))
     go true e c f = subst (λ x. Accepts a make (stamp_step a make) (stamp_at x (count_of a a.server == greatest_count))) (sym e) (λ t. step_at (e t) (count_of a a.server == greatest_count))
     go false e true f = subst (Accepts a make (stamp_step a make)) (λ t. stamp_at (sym e t) (sym f t)) (λ t. step_at (e t) (f t))
     go false e false f =
@@ -118,7 +119,8 @@ pub submitted_is_next : (a : Replica) (q : Request) → IsReplica a → IsTrue (
 submitted_is_next a q sound within late full =
     is_next a (stamped (next_stamp a) q) (all_parts (is_stamp (next_stamp a)) (is_room_name q.room) (is_meeting q.meeting) (next_is_stamp a sound late full) within) refl
 
-pub cancelled_is_next : (a : Replica) (room : Text) (target : Id) → IsReplica a → IsTrue (is_room_name room) → IsTrue (is_id target) → clock_of a < greatest_time → count_of a a.server < greatest_count → IsNext a (cancel_with room target (next_stamp a))
+pub cancelled_is_next : (a : Replica) (room : Text) (target : Id) → IsReplica a → IsTrue (is_room_name room) → IsTrue (is_id target)
+    → clock_of a < greatest_time → count_of a a.server < greatest_count → IsNext a (cancel_with room target (next_stamp a))
 cancelled_is_next a room target sound name id late full =
     is_next a (cancel_with room target (next_stamp a)) (both_parts (is_stamp (next_stamp a)) (is_room_name room) (is_id target) (next_is_stamp a sound late full) name id) refl
 

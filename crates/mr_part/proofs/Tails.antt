@@ -16,13 +16,18 @@ shuffled false false true m c = sym (or-true m)
 shuffled false false false m c = refl
 
 -- one step of a list of items that is gone through
-pub tail-more : (commits : ℕ) (items : List Item) (k : ℕ) (item : Item) (old new : Tail) (time server : ℕ) → drop k items ≡ item ∷ drop (k + 1) items → has_place new time server ≡ (has_place old time server || brings commits (item_of item) time server) → (has_place old time server || is_late commits (map item_of (drop k items)) time server) ≡ is_late commits (map item_of items) time server → (has_place new time server || is_late commits (map item_of (drop (k + 1) items)) time server) ≡ is_late commits (map item_of items) time server
+pub tail-more : (commits : ℕ) (items : List Item) (k : ℕ) (item : Item) (old new : Tail) (time server : ℕ) → drop k items ≡ item ∷ drop (k + 1) items
+    → has_place new time server ≡ (has_place old time server || brings commits (item_of item) time server)
+    → (has_place old time server || is_late commits (map item_of (drop k items)) time server) ≡ is_late commits (map item_of items) time server
+    → (has_place new time server || is_late commits (map item_of (drop (k + 1) items)) time server) ≡ is_late commits (map item_of items) time server
 tail-more commits items k item old new time server here brought was =
     let rest = map item_of (drop (k + 1) items) in
     ap (λ b. b || is_late commits rest time server) brought
-    ∙ shuffled (has_place old time server) (is_new_commit commits (item_of item)) (is_behind_item time server (item_of item)) (list_any (is_new_commit commits) rest) (list_any (is_behind_item time server) rest)
+    ∙ shuffled (has_place old time server) (is_new_commit commits (item_of item)) (is_behind_item time server (item_of item))
+    (list_any (is_new_commit commits) rest) (list_any (is_behind_item time server) rest)
     ∙ ap (λ left. has_place old time server || is_late commits (map item_of left) time server) (sym here)
     ∙ was
 
-pub tail-ended : (commits : ℕ) (items : List Item) (tail : Tail) (time server : ℕ) → (has_place tail time server || is_late commits (map item_of []) time server) ≡ is_late commits (map item_of items) time server → has_place tail time server ≡ is_late commits (map item_of items) time server
+pub tail-ended : (commits : ℕ) (items : List Item) (tail : Tail) (time server : ℕ) → (has_place tail time server || is_late commits (map item_of []) time server)
+    ≡ is_late commits (map item_of items) time server → has_place tail time server ≡ is_late commits (map item_of items) time server
 tail-ended commits items tail time server was = sym (or-false (has_place tail time server)) ∙ was

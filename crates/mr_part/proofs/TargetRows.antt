@@ -21,7 +21,8 @@ flat_more f [] x = append-nil (f x)
 flat_more f (y ∷ ys) x = ap (λ zs. f y ++ zs) (flat_more f ys x) ∙ sym (append_assoc (f y) (flat_map f ys) (f x))
 
 -- with those of one write more
-pub targets_more : (ts : List Tally) (old b : Rows) (ws : List Write) (was : List (Option Id)) (k : ℕ) (w : Write) (by : Option Id) (done next : List PlaceRow) → k < length ws → w ≡ get_or ws k w → by ≡ get_or was k by → was ≡ map (taken_by old) ws
+pub targets_more : (ts : List Tally) (old b : Rows) (ws : List Write) (was : List (Option Id)) (k : ℕ) (w : Write) (by : Option Id) (done next : List PlaceRow)
+    → k < length ws → w ≡ get_or ws k w → by ≡ get_or was k by → was ≡ map (taken_by old) ws
     → done ≡ moved_targets ts old b (take k ws) → next ≡ done ++ target_if_moved ts by b w.room w.action → next ≡ moved_targets ts old b (take (k + 1) ws)
 targets_more ts old b ws was k w by done next low at is are have more =
     let own : by ≡ taken_by old w = is ∙ sym (told_at (taken_by old) ws was k w by low at are) in

@@ -56,10 +56,12 @@ placed_is (Cancel row) p e = absurd (none_some p e)
 abbrev row_with : Write → Meeting → Slot → Option Id → Row
 row_with w m s by = record { room = w.room; trace = trace_with m (Some s) by }
 
-row_of_booking : (w : Write) (a : Action) (p : Place) (by : Option Id) (m : Meeting) (s : Slot) → a ≡ Books m → slot_at w p ≡ Some s → option_map (λ k. record { room = w.room; trace = k }) (trace_for w a p by) ≡ Some (row_with w m s by)
+row_of_booking : (w : Write) (a : Action) (p : Place) (by : Option Id) (m : Meeting) (s : Slot) → a ≡ Books m
+    → slot_at w p ≡ Some s → option_map (λ k. record { room = w.room; trace = k }) (trace_for w a p by) ≡ Some (row_with w m s by)
 row_of_booking w a p by m s e f = ap (λ x. option_map (λ k. record { room = w.room; trace = k }) (trace_for w x p by)) e ∙ ap (λ o. Some (record { room = w.room; trace = trace_with m o by })) f
 
-place_of_booking : (w : Write) (a : Action) (p : Place) (by : Option Id) (mark : Bool) (seq : ℕ) (m : Meeting) (s : Slot) → a ≡ Books m → slot_at w p ≡ Some s → place_row_for w a p by mark seq ≡ booking_place_row w m (Some s) by mark seq
+place_of_booking : (w : Write) (a : Action) (p : Place) (by : Option Id) (mark : Bool) (seq : ℕ) (m : Meeting) (s : Slot)
+    → a ≡ Books m → slot_at w p ≡ Some s → place_row_for w a p by mark seq ≡ booking_place_row w m (Some s) by mark seq
 place_of_booking w a p by mark seq m s e f = ap (λ x. place_row_for w x p by mark seq) e ∙ ap (λ o. booking_place_row w m o by mark seq) f
 
 -- ---- rows that are seen
@@ -93,21 +95,30 @@ Shows r room board = (q : Id) → if_taken (if_of room (row_at board q)) ≡ if_
 shown : (r : Replica) (room : Text) (board : Rows) (q : Id) (row : Row) → Shows r room board → if_of room (row_at board q) ≡ Some row → is_taken row.trace ≡ true → row_at (board_of r) q ≡ Some row
 shown r room board q row shows e t = seen_room room (row_at (board_of r) q) row (seen_taken (if_of room (row_at (board_of r) q)) row (sym (shows q) ∙ ap if_taken e ∙ taken_seen row t)).0
 
-shows_it : (r : Replica) (room : Text) (board : Rows) (q : Id) (row : Row) → Shows r room board → row_at (board_of r) q ≡ Some row → row.room ≡ room → is_taken row.trace ≡ true → if_of room (row_at board q) ≡ Some row
+shows_it : (r : Replica) (room : Text) (board : Rows) (q : Id) (row : Row) → Shows r room board
+    → row_at (board_of r) q ≡ Some row → row.room ≡ room → is_taken row.trace ≡ true → if_of room (row_at board q) ≡ Some row
 shows_it r room board q row shows e is t = (seen_taken (if_of room (row_at board q)) row (shows q ∙ ap (λ o. if_taken (if_of room o)) e ∙ ap if_taken (room_seen room row is) ∙ taken_seen row t)).0
 
 -- of a known booking with a slot
-shows_booking : (r : Replica) (w : Write) (board : Rows) (m : Meeting) (s : Slot) → IsReplica r → Has w r.known → Shows r w.room board → w.action ≡ Books m → slot_at w (place_of r w) ≡ Some s → if_of w.room (row_at board (id_of w)) ≡ Some (row_with w m s (canceller_of r w))
+shows_booking : (r : Replica) (w : Write) (board : Rows) (m : Meeting) (s : Slot) → IsReplica r → Has w r.known → Shows r w.room board
+    → w.action ≡ Books m → slot_at w (place_of r w) ≡ Some s → if_of w.room (row_at board (id_of w)) ≡ Some (row_with w m s (canceller_of r w))
 shows_booking r w board m s sound known shows e f =
     shows_it r w.room board (id_of w) (row_with w m s (canceller_of r w)) shows
     (known_at r w sound known ∙ row_of_booking w w.action (place_of r w) (canceller_of r w) m s e f) refl (taken_kept m s (canceller_of r w))
 
 -- what is shown is the booking of a known write
-known_shown : (r : Replica) (q : Id) (row : Row) → IsReplica r → row_at (board_of r) q ≡ Some row → (w : Write) × Has w r.known × (id_of w ≡ q) × (board_place (tallies_of r) q row ≡ if_placed (place_row r w))
+known_shown : (r : Replica) (q : Id) (row : Row) → IsReplica r → row_at (board_of r) q ≡ Some row
+    → (w : Write) × Has w r.known × (id_of w ≡ q) × (board_place (tallies_of r) q row ≡ if_placed (place_row r w))
 known_shown r q row sound e = go (known_or_none q r.known)
   where
-    go : ((w : Write) × Has w r.known × (id_of w ≡ q)) ⊎ ((w : Write) → Has w r.known → id_of w ≡ q → ⊥) → (w : Write) × Has w r.known × (id_of w ≡ q) × (board_place (tallies_of r) q row ≡ if_placed (place_row r w))
-    go (inl (w, k, s)) = (w, k, s, subst (λ i. board_place (tallies_of r) i row ≡ if_placed (place_row r w)) s (sym (told (id_of w) (row_at (board_of r) (id_of w)) (ap (row_at (board_of r)) s ∙ e)) ∙ placed-here r w sound k))
+    go : ((w : Write) × Has w r.known × (id_of w ≡ q)) ⊎ ((w : Write) → Has w r.known → id_of w ≡ q → ⊥)
+        → (w : Write) × Has w r.known × (id_of w ≡ q) × (board_place (tallies_of r) q row ≡ if_placed (place_row r w))
+    go (inl (w, k, s)) = (
+      w,
+      k,
+      s,
+      subst (λ i. board_place (tallies_of r) i row ≡ if_placed (place_row r w)) s (sym (told (id_of w) (row_at (board_of r) (id_of w)) (ap (row_at (board_of r)) s ∙ e)) ∙ placed-here r w sound k),
+    )
       where
         told : (i : Id) (o : Option Row) → o ≡ Some row → of_row (board_place (tallies_of r)) i o ≡ board_place (tallies_of r) i row
         told i o f = ap (of_row (board_place (tallies_of r)) i) f
@@ -121,7 +132,8 @@ same_by-true None (Some d) e = absurd (true≢false (sym e))
 same_by-true (Some c) None e = absurd (true≢false (sym e))
 same_by-true (Some c) (Some d) e = ap Some (same_id-true c d e)
 
-module _ (a b : Replica) (items : List Item) (m : BatchMoves a b items) (sound : IsReplica a) (old new : Rows) (shows_old : (w : Write) → Has w (anew a b items m sound) → Shows a w.room old) (shows_new : (w : Write) → Has w (anew a b items m sound) → Shows b w.room new) where
+module _ (a b : Replica) (items : List Item) (m : BatchMoves a b items) (sound : IsReplica a) (old new : Rows)
+    (shows_old : (w : Write) → Has w (anew a b items m sound) → Shows a w.room old) (shows_new : (w : Write) → Has w (anew a b items m sound) → Shows b w.room new) where
   abbrev writes : List Write
   writes = anew a b items m sound
 
@@ -131,7 +143,8 @@ module _ (a b : Replica) (items : List Item) (m : BatchMoves a b items) (sound :
       let (c, g, k) = flat_has (moved_target (tallies_of b) old new) p writes h in
       go c g (taken_by old c) c.action k
     where
-      placed : (c : Write) (t : Id) (row : Row) → Has c writes → if_of c.room (row_at new t) ≡ Some row → Has p (cons_option (board_place (tallies_of b) t row) []) → (w : Write) × Has w b.known × (p ≡ place_row b w)
+      placed : (c : Write) (t : Id) (row : Row) → Has c writes → if_of c.room (row_at new t) ≡ Some row
+          → Has p (cons_option (board_place (tallies_of b) t row) []) → (w : Write) × Has w b.known × (p ≡ place_row b w)
       placed c t row g e h = by (board_place (tallies_of b) t row) refl h
         where
           taken : (k : Trace) (q : PlaceRow) → trace_place (tallies_of b) t row.room k ≡ Some q → is_taken k ≡ true
@@ -147,7 +160,8 @@ module _ (a b : Replica) (items : List Item) (m : BatchMoves a b items) (sound :
               (w, known, k ∙ placed_is (place_row b w) q (sym told ∙ f))
           by (Some q) f (inr k) = absurd k
 
-      row : (c : Write) (was : Option Id) (t : Id) (o : Option Row) → Has c writes → if_of c.room (row_at new t) ≡ o → Has p (row_if_moved (tallies_of b) was t o) → (w : Write) × Has w b.known × (p ≡ place_row b w)
+      row : (c : Write) (was : Option Id) (t : Id) (o : Option Row) → Has c writes → if_of c.room (row_at new t) ≡ o
+          → Has p (row_if_moved (tallies_of b) was t o) → (w : Write) × Has w b.known × (p ≡ place_row b w)
       row c was t None g e k = absurd k
       row c was t (Some r) g e k = by (same_by was (canceller_on r.trace)) k
         where
@@ -160,11 +174,13 @@ module _ (a b : Replica) (items : List Item) (m : BatchMoves a b items) (sound :
       go c g was (Cancels t) k = row c was t (if_of c.room (row_at new t)) g refl k
 
   -- a write with the place and the number that it had keeps its row, or this is put
-  pub targets_tell : (w : Write) → Has w a.known → Has w b.known → place_of a w ≡ place_of b w → seq_of a w ≡ seq_of b w → (place_row a w ≡ place_row b w) ⊎ Has (place_row b w) (moved_targets (tallies_of b) old new writes)
+  pub targets_tell : (w : Write) → Has w a.known → Has w b.known → place_of a w ≡ place_of b w → seq_of a w ≡ seq_of b w
+      → (place_row a w ≡ place_row b w) ⊎ Has (place_row b w) (moved_targets (tallies_of b) old new writes)
   targets_tell w ka kb p q = go (list_any (aims w) writes) refl
     where
       -- a cancel that aims at it
-      aimed : (c : Write) → Has c writes → c.room ≡ w.room → c.action ≡ Cancels (id_of w) → (x : Action) → w.action ≡ x → (o : Option Slot) → slot_at w (place_of b w) ≡ o → (place_row a w ≡ place_row b w) ⊎ Has (place_row b w) (moved_targets (tallies_of b) old new writes)
+      aimed : (c : Write) → Has c writes → c.room ≡ w.room → c.action ≡ Cancels (id_of w) → (x : Action) → w.action ≡ x → (o : Option Slot)
+          → slot_at w (place_of b w) ≡ o → (place_row a w ≡ place_row b w) ⊎ Has (place_row b w) (moved_targets (tallies_of b) old new writes)
       aimed c h room act (Cancels t) e o f = inl (row_stays a b w p q (λ y s g i. absurd (let k : Books y ≡ Cancels t = sym g ∙ e in let never : ⊥ = cc in never)))
       aimed c h room act (Books y) e None f = inl (row_stays a b w p q (λ z s g i. absurd (none_some s (sym f ∙ i))))
       aimed c h room act (Books y) e (Some s) f = by (same_by (canceller_of a w) (canceller_of b w)) refl
@@ -197,7 +213,8 @@ module _ (a b : Replica) (items : List Item) (m : BatchMoves a b items) (sound :
 
           by : (x : Bool) → same_by (canceller_of a w) (canceller_of b w) ≡ x → (place_row a w ≡ place_row b w) ⊎ Has (place_row b w) (moved_targets (tallies_of b) old new writes)
           by true g = inl (row_stays a b w p q (λ z t i j. same_by-true (canceller_of a w) (canceller_of b w) g))
-          by false g = inr (has_flat (moved_target (tallies_of b) old new) (place_row b w) c writes h (subst (λ xs. Has (place_row b w) xs) (sym (rows ∙ ap (λ x. cond x [] (place_row b w ∷ [])) g)) (inl refl)))
+          by false g = inr (has_flat (moved_target (tallies_of b) old new) (place_row b w) c writes h
+              (subst (λ xs. Has (place_row b w) xs) (sym (rows ∙ ap (λ x. cond x [] (place_row b w ∷ [])) g)) (inl refl)))
 
       go : (x : Bool) → list_any (aims w) writes ≡ x → (place_row a w ≡ place_row b w) ⊎ Has (place_row b w) (moved_targets (tallies_of b) old new writes)
       go false e = inl (row_stays a b w p q (λ y s g i. cancellers_stay a b items m sound w ka kb e))

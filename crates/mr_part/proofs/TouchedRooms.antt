@@ -13,6 +13,7 @@ use Rattle.mr_part.specs.declared.touched.Touched.{Touched}
 use Rattle.mr_part.specs.Sets.{has_id, IsSetOf}
 use Rattle.mr_replay.specs.Seen.{has_room}
 use Rattle.mr_part.specs.Touched.{commits_id, writes_in, IsTouchedBy}
+use Rattle.mr_replay.proofs.Overlaid.{or_swap}
 
 -- ---- tests of lists
 
@@ -37,26 +38,28 @@ either p q r (x ∷ xs) = ap (λ b. ((p x || q x) && r x) || b) (either p q r xs
     go false true false m n = refl
     go false false c m n = refl
 
-swapped : (a b c : Bool) → (a || (b || c)) ≡ (b || (a || c))
-swapped true true c = refl
-swapped true false c = refl
-swapped false b c = refl
-
 -- ---- rooms
 
 module _ {A : Type 0} (id : A → Id) (room : A → Text) (commits : ℕ) (rows : List A) (name : Text) where
   -- the rooms that one commit names
-  named : (other : Id) (new : Bool) (xs : List A) → list_any (bytes_eq name) (cond new (map room (filter (λ row. same_id (id row) other) xs)) []) ≡ list_any (λ row. (new && same_id other (id row)) && bytes_eq name (room row)) xs
+  named : (other : Id) (new : Bool) (xs : List A) → list_any (bytes_eq name) (cond new (map room (filter (λ row. same_id (id row) other) xs)) [])
+      ≡ list_any (λ row. (new && same_id other (id row)) && bytes_eq name (room row)) xs
   named other false xs = sym (none xs)
   named other true [] = refl
-  named other true (x ∷ xs) = go (same_id (id x) other) refl (named other true xs) ∙ ap (λ b. (b && bytes_eq name (room x)) || list_any (λ row. same_id other (id row) && bytes_eq name (room row)) xs) (same_id_comm (id x) other)
+  named other true (x ∷ xs) = go (same_id (id x) other) refl (named other true xs)
+      ∙ ap (λ b. (b && bytes_eq name (room x)) || list_any (λ row. same_id other (id row) && bytes_eq name (room row)) xs) (same_id_comm (id x) other)
     where
-      go : (b : Bool) → same_id (id x) other ≡ b → list_any (bytes_eq name) (map room (filter (λ row. same_id (id row) other) xs)) ≡ list_any (λ row. same_id other (id row) && bytes_eq name (room row)) xs → list_any (bytes_eq name) (map room (cond b (x ∷ filter (λ row. same_id (id row) other) xs) (filter (λ row. same_id (id row) other) xs))) ≡ ((b && bytes_eq name (room x)) || list_any (λ row. same_id other (id row) && bytes_eq name (room row)) xs)
+      go : (b : Bool) → same_id (id x) other ≡ b
+          → list_any (bytes_eq name) (map room (filter (λ row. same_id (id row) other) xs)) ≡ list_any (λ row. same_id other (id row) && bytes_eq name (room row)) xs
+          → list_any (bytes_eq name) (map room (cond b (x ∷ filter (λ row. same_id (id row) other) xs) (filter (λ row. same_id (id row) other) xs)))
+          ≡ ((b && bytes_eq name (room x)) || list_any (λ row. same_id other (id row) && bytes_eq name (room row)) xs)
       go true e rest = ap (λ b. bytes_eq name (room x) || b) rest
       go false e rest = rest
 
   -- a room that a batch touches is of one of its writes, or of a kept write that a new commit of it names
-  pub touched_apart : (f : Item → List Text) → ((w : Write) → f (W w) ≡ w.room ∷ []) → ((seq : ℕ) (other : Id) → f (C seq other) ≡ cond (ltb commits seq) (map room (filter (λ row. same_id (id row) other) rows)) []) → (items : List Item) → list_any (bytes_eq name) (flat_map f items) ≡ (list_any (writes_in name) items || list_any (λ row. list_any (commits_id commits (id row)) items && bytes_eq name (room row)) rows)
+  pub touched_apart : (f : Item → List Text) → ((w : Write) → f (W w) ≡ w.room ∷ [])
+      → ((seq : ℕ) (other : Id) → f (C seq other) ≡ cond (ltb commits seq) (map room (filter (λ row. same_id (id row) other) rows)) []) → (items : List Item)
+      → list_any (bytes_eq name) (flat_map f items) ≡ (list_any (writes_in name) items || list_any (λ row. list_any (commits_id commits (id row)) items && bytes_eq name (room row)) rows)
   touched_apart f of_write of_commit [] = sym (none rows)
   touched_apart f of_write of_commit (W w ∷ items) =
       ap (λ rooms. list_any (bytes_eq name) (rooms ++ flat_map f items)) (of_write w)
@@ -68,11 +71,14 @@ module _ {A : Type 0} (id : A → Id) (room : A → Text) (commits : ℕ) (rows 
       let here = λ (row : A). bytes_eq name (room row) in
       list_any-append (bytes_eq name) (f (C seq other)) (flat_map f items)
       ∙ (λ t. (ap (list_any (bytes_eq name)) (of_commit seq other) ∙ named other (ltb commits seq) rows) t || touched_apart f of_write of_commit items t)
-      ∙ swapped (list_any (λ row. first row && here row) rows) (list_any (writes_in name) items) (list_any (λ row. later row && here row) rows)
+      ∙ or_swap (list_any (λ row. first row && here row) rows) (list_any (writes_in name) items) (list_any (λ row. later row && here row) rows)
       ∙ ap (λ b. list_any (writes_in name) items || b) (sym (either first later here rows))
 
 -- what is found by itself and among the kept writes are the rooms that the batch touches
-pub touched_found : {A : Type 0} (id : A → Id) (room : A → Text) (commits : ℕ) (rows : List A) (f : Item → List Text) → ((w : Write) → f (W w) ≡ w.room ∷ []) → ((seq : ℕ) (other : Id) → f (C seq other) ≡ cond (ltb commits seq) (map room (filter (λ row. same_id (id row) other) rows)) []) → (items : List Item) (touched : Touched) (set : BTreeSet Text) → IsTouchedBy touched commits items → ((name : Text) → has_room set name ≡ (has_room touched.rooms name || list_any (λ row. has_id touched.committed (id row) && bytes_eq name (room row)) rows)) → IsSetOf set (flat_map f items)
+pub touched_found : {A : Type 0} (id : A → Id) (room : A → Text) (commits : ℕ) (rows : List A) (f : Item → List Text) → ((w : Write) → f (W w) ≡ w.room ∷ [])
+    → ((seq : ℕ) (other : Id) → f (C seq other) ≡ cond (ltb commits seq) (map room (filter (λ row. same_id (id row) other) rows)) [])
+    → (items : List Item) (touched : Touched) (set : BTreeSet Text) → IsTouchedBy touched commits items
+    → ((name : Text) → has_room set name ≡ (has_room touched.rooms name || list_any (λ row. has_id touched.committed (id row) && bytes_eq name (room row)) rows)) → IsSetOf set (flat_map f items)
 touched_found id room commits rows f of_write of_commit items touched set is added name =
     added name
     ∙ (λ t. is.rooms name t || list_any (λ row. is.committed (id row) t && bytes_eq name (room row)) rows)

@@ -6,18 +6,18 @@ use Rattle.mr_base.specs.declared.refusals.Refusal.{Refusal}
 use Rattle.mr_tables.specs.declared.summary.Summary.{Summary}
 use Rattle.mr_tables.specs.Summary.{stamp_next}
 
-abbrev pub id_in : Result Stamp Refusal → Option Id
-id_in (Ok stamp) = Some (record { server = stamp.server; n = stamp.n })
-id_in (Err e) = None
+abbrev pub id_of_stamp : Result Stamp Refusal → Option Id
+id_of_stamp (Ok stamp) = Some (record { server = stamp.server; n = stamp.n })
+id_of_stamp (Err e) = None
 
 -- that of the next write of the own server, unless its count or the clock is at its limit
-abbrev pub next_id : Summary → Option Id
-next_id s = id_in (stamp_next s)
+abbrev pub next_own_id : Summary → Option Id
+next_own_id s = id_of_stamp (stamp_next s)
 
 -- submissions and cancels make a write, and no other command does
 abbrev pub id_given : Scope → Summary → Option Id
-id_given (InRoom room) s = next_id s
-id_given (OfTarget target) s = next_id s
+id_given (InRoom room) s = next_own_id s
+id_given (OfTarget target) s = next_own_id s
 id_given Nothing s = None
 id_given (NextCommits count) s = None
 id_given (UpTo number) s = None

@@ -81,17 +81,17 @@ is_booking_row_in room None = false
 is_booking_row_in room (Some row) = if bytes_eq row.room room then is_booking_trace row.trace else false
 
 -- whether the board has a booking of this room with this id: one that stands, was taken back or found no slot
-abbrev pub has_booking : Rows → Text → Id → Bool
-has_booking b room id = is_booking_row_in room (row_at b id)
+abbrev pub has_booking_on : Rows → Text → Id → Bool
+has_booking_on b room id = is_booking_row_in room (row_at b id)
 
 -- the row of a booking that stands, where this cancel takes it back
-abbrev pub taken_row : Id → Option PlaceRow → List PlaceRow
-taken_row by (Some (Booked row)) = Cancelled (taken_back by row) ∷ []
-taken_row by _ = []
+abbrev pub row_taken_back : Id → Option PlaceRow → List PlaceRow
+row_taken_back by (Some (Booked row)) = Cancelled (taken_back by row) ∷ []
+row_taken_back by _ = []
 
 abbrev pub taken_on : List Tally → Id → Id → Option Row → List PlaceRow
 taken_on ts by target None = []
-taken_on ts by target (Some row) = taken_row by (board_place ts target row)
+taken_on ts by target (Some row) = row_taken_back by (board_place ts target row)
 
 -- the target of a write that took it back
 abbrev pub taken_rows_of : List Tally → Rows → Id → Option Id → List PlaceRow

@@ -68,10 +68,10 @@ pub record IsBatchScope (batch : BatchScope) (commits : ℕ) (items : List Item)
 
 -- ---- rows of log
 
-abbrev pub passes : LogTest → LogRow → Bool
-passes (test.UpTo number) row = within 1 number row.seq
-passes (test.Above number) row = is_above number row
-passes (test.OfBatch batch) row = has_log batch.now row
+abbrev pub passes_log_test : LogTest → LogRow → Bool
+passes_log_test (test.UpTo number) row = within 1 number row.seq
+passes_log_test (test.Above number) row = is_above number row
+passes_log_test (test.OfBatch batch) row = has_log batch.now row
 
 -- ---- rows of bookings
 

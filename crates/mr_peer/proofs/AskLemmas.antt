@@ -47,17 +47,17 @@ handed {X} command reply P Q a b result stays good machine reads taken = (same, 
     go (Err fault.BadReply) u = absurd u
     go (Err (fault.Peer n)) u = absurd u
 
-same_position : (p q : Position) → PositionIs p ≡ PositionIs q → p ≡ q
+pub same_position : (p q : Position) → PositionIs p ≡ PositionIs q → p ≡ q
 same_position p q e = cc
 
 same_batch : (p q : Batch) → BatchIs p ≡ BatchIs q → p ≡ q
 same_batch p q e = cc
 
-not_position : (reply : Reply) (p : Position) → reply ≡ PositionIs p → IsOfMachine reply → ⊥
+pub not_position : (reply : Reply) (p : Position) → reply ≡ PositionIs p → IsOfMachine reply → ⊥
 not_position reply p is no_memory = let f : Refused _ ≡ PositionIs p = is in absurd (cc)
 not_position reply p is no_store = let f : Refused _ ≡ PositionIs p = is in absurd (cc)
 
-not_batch : (reply : Reply) (b : Batch) → reply ≡ BatchIs b → IsOfMachine reply → ⊥
+pub not_batch : (reply : Reply) (b : Batch) → reply ≡ BatchIs b → IsOfMachine reply → ⊥
 not_batch reply b is no_memory = let f : Refused _ ≡ BatchIs b = is in absurd (cc)
 not_batch reply b is no_store = let f : Refused _ ≡ BatchIs b = is in absurd (cc)
 

@@ -1,5 +1,6 @@
 -- How long the lines of a batch are, and its text.
-use Rattle.std.proofs.Common.{◌≡◌, refl, sym, ap, ◌∙◌, subst, ℕ, ◌+◌, ◌*◌, ◌^◌, ◌<◌, ◌≤◌, Bool, true, ◌&&◌, leb, List, [], ◌∷◌, ◌++◌, length, map, take, flat_map, codes, decimal, arith, leb-true, Option, Some, None, length-append, length-take}
+use Rattle.std.proofs.Common.{◌≡◌, refl, sym, ap, ◌∙◌, subst, ℕ, ◌+◌, ◌*◌, ◌^◌, ◌<◌, ◌≤◌, Bool, true, ◌&&◌, leb, List, [], ◌∷◌, ◌++◌, length}
+use Rattle.std.proofs.Common.{map, take, flat_map, codes, decimal, arith, leb-true, Option, Some, None, length-append, length-take}
 use Rattle.std.proofs.lemmas.Bool.{and_parts}
 use Rattle.std.proofs.lemmas.Fmt.{length-decimal-le}
 use Rattle.std.specs.Fmt.{digits}
@@ -15,7 +16,8 @@ use Rattle.mr_model.specs.Refusals.{BadPosition}
 use Rattle.mr_model.specs.Step.{BatchFor, step, batch_of, items_for, batch_reply, reply_to_position}
 use Rattle.mr_model.proofs.BatchItems.{batch_given, given_within}
 use Rattle.mr_peer.specs.PeerRequests.{is_host, push_request}
-use Rattle.mr_model.specs.Exchange.{Version, First, Second, Item, W, C, Ending, Complete, More, Cut, Header, Batch, is_item, is_header, is_in_version, is_batch_of, is_batch, batch_text, version_word, header_line, item_line, ending_lines, lines_under, write_words_of, meeting_words, target_words}
+use Rattle.mr_model.specs.Exchange.{Version, First, Second, Item, W, C, Ending, Complete, More, Cut, Header, Batch, is_item, is_header, is_in_version, is_batch_of}
+use Rattle.mr_model.specs.Exchange.{is_batch, batch_text, version_word, header_line, item_line, ending_lines, lines_under, write_words_of, meeting_words, target_words}
 
 -- the bytes of words, each with the one behind it
 abbrev span : List Text → ℕ
@@ -89,8 +91,14 @@ cancel_short stamp room target is_s is_r is_t =
 -- a write's, with its end
 write_short : (stamp : Stamp) (room : Text) (action : Action) → is_stamp stamp ≡ true → is_room_name room ≡ true → is_action action ≡ true
     → length (words (write_words_of stamp room action)) + 1 ≤ 403
-write_short stamp room (Books m) is_s is_r is = let h = line_spans (codes "W") (decimal stamp.server ∷ decimal stamp.n ∷ decimal stamp.time ∷ room ∷ meeting_words m) in let b = booking_short stamp room m is_s is_r is in omega (arith, h, b)
-write_short stamp room (Cancels t) is_s is_r is = let h = line_spans (codes "X") (decimal stamp.server ∷ decimal stamp.n ∷ decimal stamp.time ∷ room ∷ target_words t) in let b = cancel_short stamp room t is_s is_r is in omega (arith, h, b)
+write_short stamp room (Books m) is_s is_r is =
+    let h = line_spans (codes "W") (decimal stamp.server ∷ decimal stamp.n ∷ decimal stamp.time ∷ room ∷ meeting_words m) in
+    let b = booking_short stamp room m is_s is_r is in
+    omega (arith, h, b)
+write_short stamp room (Cancels t) is_s is_r is =
+    let h = line_spans (codes "X") (decimal stamp.server ∷ decimal stamp.n ∷ decimal stamp.time ∷ room ∷ target_words t) in
+    let b = cancel_short stamp room t is_s is_r is in
+    omega (arith, h, b)
 
 item_short : (v : Version) (x : Item) → is_item v x ≡ true → length (item_line x) + 1 ≤ 403
 item_short v (W w) is =

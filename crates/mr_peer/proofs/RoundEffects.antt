@@ -17,7 +17,7 @@ use Rattle.mr_http.specs.declared.faults.WebFault.TheVariants as fault
 use Rattle.mr_peer.specs.PeerRequests.{pull_request}
 use Rattle.mr_peer.specs.Rounds.{Pulls}
 use Rattle.mr_peer.specs.ExchangeSteps.{ReceivesSome, TakesPulled}
-use Rattle.mr_peer.specs.PeerTaking.{Receives, Takes, IsReplyFault}
+use Rattle.mr_peer.specs.PeerTaking.{Receives, TakesBodyOrFault, IsReplyFault}
 
 receives_some : (body : Text) (a : Replica) (result : Result (ℕ × ℕ × Ending) WebFault) (b : Replica) → Receives body a result b → ReceivesSome a result b
 receives_some body a (Ok took) b h = (body, h)
@@ -38,7 +38,7 @@ fault_stays a (fault.Own e) b is same = absurd is
 
 -- what is taken of a reply is some body
 pub takes_some : (told : Result Text WebFault) (a : Replica) (result : Result (ℕ × ℕ × Ending) WebFault) (b : Replica)
-    → IfErr told IsReplyFault → Takes told a result b → ReceivesSome a result b
+    → IfErr told IsReplyFault → TakesBodyOrFault told a result b → ReceivesSome a result b
 takes_some (Ok body) a result b is takes = receives_some body a result b takes
 takes_some (Err e) a result b is takes =
     subst (λ (r : Result (ℕ × ℕ × Ending) WebFault). ReceivesSome a r b) (sym takes.0) (fault_stays a e b is takes.1)

@@ -21,7 +21,7 @@ use Rattle.mr_service.specs.declared.replies.Reply as service
 use Rattle.mr_service.specs.declared.replies.Reply.TheVariants as code
 use Rattle.mr_peer.specs.PeerReplies as peer
 use Rattle.mr_peer.specs.Seen.{counts_seen}
-use Rattle.mr_peer.specs.PeerTaking.{EndsAsBatch, CountsTaken, Receives, Takes, TakesReply, TellsTaken, TellsPulled}
+use Rattle.mr_peer.specs.PeerTaking.{EndsAsBatch, CountsTaken, Receives, TakesBodyOrFault, TakesReply, TellsTaken, TellsPulled}
 
 -- a batch is answered by counts, or refused, which changes nothing
 abbrev IsCounted : Replica → Reply → Replica → Type 0
@@ -105,17 +105,17 @@ receives_stays body a fault.Write b h = absurd h
 receives_stays body a fault.BadReply b h = absurd h
 receives_stays body a (fault.Peer n) b h = absurd h
 
-takes_stays : (told : Result Text WebFault) (a : Replica) (e : WebFault) (b : Replica) → Takes told a (Err e) b → b ≡ a
+takes_stays : (told : Result Text WebFault) (a : Replica) (e : WebFault) (b : Replica) → TakesBodyOrFault told a (Err e) b → b ≡ a
 takes_stays (Ok body) a e b h = receives_stays body a e b h
 takes_stays (Err f) a e b h = h.1
 
-pub takes_left : (told : Result Text WebFault) (a : Replica) (result : Result (ℕ × ℕ × Ending) WebFault) (b : Replica) → Takes told a result b → OnErr result (b ≡ a)
+pub takes_left : (told : Result Text WebFault) (a : Replica) (result : Result (ℕ × ℕ × Ending) WebFault) (b : Replica) → TakesBodyOrFault told a result b → OnErr result (b ≡ a)
 takes_left told a (Ok x) b h = tt
 takes_left told a (Err e) b h = takes_stays told a e b h
 
 -- what is taken of a reply is taken of the input that it is
 pub takes_reply : (known : Option Text) (reply : Option peer.PeerReply) (a : Replica) (result : Result (ℕ × ℕ × Ending) WebFault) (b : Replica)
-    → OfInput known (λ input. peer.IsReplied input reply) → Takes (peer.front_body reply) a result b → TakesReply known a result b
+    → OfInput known (λ input. peer.IsReplied input reply) → TakesBodyOrFault (peer.front_body reply) a result b → TakesReply known a result b
 takes_reply known reply a (Err fault.Read) b is h = takes_stays (peer.front_body reply) a fault.Read b h
 takes_reply known reply a (Err fault.Memory) b is h = takes_stays (peer.front_body reply) a fault.Memory b h
 takes_reply known reply a (Ok x) b is h = of_input_map known (λ input. peer.IsReplied input reply) _ (λ input r. (reply, r, h)) is

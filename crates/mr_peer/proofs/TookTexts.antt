@@ -34,7 +34,8 @@ below n h =
 words_take : (text : Text) (x : ℕ × ℕ) → took_on text ≡ Some x → (are_told x ≡ true) × (text ≡ in_words x)
 unfolding took_on
 words_take text x e =
-    let a = bind_some (behind_word (codes "took") text) (λ rest. number_off 0 greatest_told rest >>= λ w. behind_word (codes "writes") w.1 >>= λ next. number_off 0 greatest_told next >>= λ c. only_if (bytes_eq c.1 last_word) (w.0, c.0)) x e in
+    let a = bind_some (behind_word (codes "took") text) (λ rest. number_off 0 greatest_told rest >>= λ w. behind_word (codes "writes") w.1
+    >>= λ next. number_off 0 greatest_told next >>= λ c. only_if (bytes_eq c.1 last_word) (w.0, c.0)) x e in
     let b = bind_some (number_off 0 greatest_told a.0) (λ w. behind_word (codes "writes") w.1 >>= λ next. number_off 0 greatest_told next >>= λ c. only_if (bytes_eq c.1 last_word) (w.0, c.0)) x a.2 in
     let d = bind_some (behind_word (codes "writes") b.0.1) (λ next. number_off 0 greatest_told next >>= λ c. only_if (bytes_eq c.1 last_word) (b.0.0, c.0)) x b.2 in
     let f = bind_some (number_off 0 greatest_told d.0) (λ c. only_if (bytes_eq c.1 last_word) (b.0.0, c.0)) x d.2 in
@@ -59,7 +60,8 @@ words_again x ok =
     let p = and_parts (within 0 greatest_told x.0) (within 0 greatest_told x.1) ok in
     let end = decimal x.1 ++ 32 ∷ last_word in
     let behind_writes = codes "writes" ++ 32 ∷ end in
-    ap (λ o. o >>= λ (rest : Text). number_off 0 greatest_told rest >>= λ w. behind_word (codes "writes") w.1 >>= λ next. number_off 0 greatest_told next >>= λ c. only_if (bytes_eq c.1 last_word) (w.0, c.0))
+    ap (λ o. o >>= λ (rest : Text). number_off 0 greatest_told rest >>= λ w. behind_word (codes "writes") w.1
+    >>= λ next. number_off 0 greatest_told next >>= λ c. only_if (bytes_eq c.1 last_word) (w.0, c.0))
     (behind_again (codes "took") (decimal x.0 ++ 32 ∷ behind_writes) (lit≤ tt, (lit≤ tt, (lit≤ tt, (lit≤ tt, tt)))))
     ∙ ap (λ o. o >>= λ (w : ℕ × Text). behind_word (codes "writes") w.1 >>= λ next. number_off 0 greatest_told next >>= λ c. only_if (bytes_eq c.1 last_word) (w.0, c.0))
     (number_off_again 0 greatest_told x.0 behind_writes p.0 (lit< tt))

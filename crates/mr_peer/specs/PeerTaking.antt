@@ -80,16 +80,16 @@ Receives body a (Err fault.Memory) b = b ≡ a
 Receives body a (Err _) b = ⊥
 
 -- what is at fault with the reply is told, and else its body is taken
-abbrev pub Takes : Result Text WebFault → Replica → Result (ℕ × ℕ × Ending) WebFault → Replica → Type 0
-Takes (Err f) a result b = (result ≡ Err f) × (b ≡ a)
-Takes (Ok body) a result b = Receives body a result b
+abbrev pub TakesBodyOrFault : Result Text WebFault → Replica → Result (ℕ × ℕ × Ending) WebFault → Replica → Type 0
+TakesBodyOrFault (Err f) a result b = (result ≡ Err f) × (b ≡ a)
+TakesBodyOrFault (Ok body) a result b = Receives body a result b
 
 -- the same of the reply that the input is, unless a read failed or memory ran out
 abbrev pub TakesReply : Option Text → Replica → Result (ℕ × ℕ × Ending) WebFault → Replica → Type 0
 TakesReply known a (Err fault.Read) b = b ≡ a
 TakesReply known a (Err fault.Memory) b = b ≡ a
 TakesReply known a result b =
-    OfInput known (λ input. (reply : Option PeerReply) × IsReplied input reply × Takes (front_body reply) a result b)
+    OfInput known (λ input. (reply : Option PeerReply) × IsReplied input reply × TakesBodyOrFault (front_body reply) a result b)
 
 -- ---- the same, whatever this replica makes of the body
 

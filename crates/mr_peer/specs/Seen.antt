@@ -12,12 +12,12 @@ use Rattle.mr_peer.specs.PeerReplies.{PeerReply, reply_cut}
 use Rattle.mr_peer.specs.declared.replies.Replied.{Replied}
 
 -- the reply that this is, with the body among these bytes
-abbrev pub seen_in : List ℕ → Replied → PeerReply
-seen_in bytes r = reply_cut r.status (drop r.start bytes) r.length
+abbrev pub reply_cut_from : List ℕ → Replied → PeerReply
+reply_cut_from bytes r = reply_cut r.status (drop r.start bytes) r.length
 
 abbrev pub reply_seen : List ℕ → Option Replied → Option PeerReply
 reply_seen bytes None = None
-reply_seen bytes (Some r) = Some (seen_in bytes r)
+reply_seen bytes (Some r) = Some (reply_cut_from bytes r)
 
 -- the body begins within so many bytes
 abbrev pub IsInside : ℕ → Option Replied → Type 0

@@ -12,7 +12,7 @@ ghost use Rattle.mr_peer.specs.PeerReplies as spec;
 ghost use Rattle.mr_peer.specs.PeerRequests.{is_host};
 ghost use Rattle.mr_peer.specs.Seen.{reply_seen, IsInside, counts_seen};
 ghost use Rattle.mr_peer.specs.ExchangeSteps.{KeepsTables, TakesBody, TakesPulled};
-ghost use Rattle.mr_peer.specs.PeerTaking.{EndsAsBatch, CountsTaken, Receives, Takes, TellsTaken, TellsPulled, IsOwnFault, IsTakeFault};
+ghost use Rattle.mr_peer.specs.PeerTaking.{EndsAsBatch, CountsTaken, Receives, TakesBodyOrFault, TellsTaken, TellsPulled, IsOwnFault, IsTakeFault};
 
 use crate::asking::reply_to;
 use crate::replies::{Replied, front_body, read_reply};
@@ -120,7 +120,7 @@ fn take_body<K: Keeper>(
 ) -> Result<(u64, u64, Ending), WebFault>
     requires { IsInside (length bytes.now) replied }
     ensures exchanged { IsExchanged K.Keeper service.old service.new result
-        (Takes (spec.front_body (reply_seen bytes.now replied))) (TakesBody (K.tables service.old)) }
+        (TakesBodyOrFault (spec.front_body (reply_seen bytes.now replied))) (TakesBody (K.tables service.old)) }
     ensures once { ReceivesOnce K.Keeper service.old service.new (λ taken. spec.front_body (reply_seen bytes.now replied) ≡ Ok taken) TellsBatch result }
     ensures tells { TellsTaken (spec.front_body (reply_seen bytes.now replied)) result }
     ensures fault { IfErr result IsTakeFault }

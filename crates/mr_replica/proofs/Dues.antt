@@ -29,13 +29,14 @@ use Rattle.mr_part.proofs.Submitting.{Submits, Withdraws, submits, withdraws}
 use Rattle.mr_replay.proofs.Lists.{one_name, same_name}
 use Rattle.mr_tables.specs.Summary.{stamp_next, summary_of}
 use Rattle.mr_replica.specs.Desk.{DeskTakesStep}
-use Rattle.mr_replica.specs.Dues.{has_booking, own_count, IsExhausted}
+use Rattle.mr_replica.specs.Dues.{has_booking_id, own_count, IsExhausted}
 use Rattle.mr_replica.specs.Picked.{find_booking, find_error, find_cancelled}
 use Rattle.mr_replica.proofs.NextIds.{stamp_told}
 use Rattle.mr_replica.proofs.RowsById.{any_found}
 
 -- the step from each replica is refused so
-pub due_step : {T : Type 0} (f : Replica → After) (reply : Replica → T → Reply) (t : Tables) (e : Refusal) → ((a : Replica) → Stands t a → f a ≡ refuse a (refusal_of e)) → DeskTakesStep {T = T} f reply t (Err e) t
+pub due_step : {T : Type 0} (f : Replica → After) (reply : Replica → T → Reply) (t : Tables) (e : Refusal)
+    → ((a : Replica) → Stands t a → f a ≡ refuse a (refusal_of e)) → DeskTakesStep {T = T} f reply t (Err e) t
 due_step f reply t e h = λ a s. inl (sym (ap (λ (x : After). x.reply) (h a s)), subst (Stands t) (sym (ap (λ (x : After). x.replica) (h a s))) s)
 
 -- what the tables say of a room is what the replica knows
@@ -55,7 +56,8 @@ unknown_room q a none =
 
 pub unknown_room_of_cancel : (room : Text) (target : Id) (a : Replica) → knows_room a room ≡ false → cancel_request room target a ≡ refuse a UnknownRoom
 unknown_room_of_cancel room target a none =
-    (λ i. step_unless a (first_refusal ((not (none i), UnknownRoom) ∷ (not (knows_booking a room target), NoSuchRequest) ∷ (eqb (clock_of a) greatest_time, ClockExhausted) ∷ (eqb (count_of a a.server) greatest_count, CountExhausted) ∷ []))
+    (λ i. step_unless a (first_refusal ((not (none i), UnknownRoom) ∷ (not (knows_booking a room target), NoSuchRequest) ∷
+    (eqb (clock_of a) greatest_time, ClockExhausted) ∷ (eqb (count_of a a.server) greatest_count, CountExhausted) ∷ []))
     (after_write a (cancel_with room target (next_stamp a))))
 
 -- ---- the clock, or the own count, is at the end
@@ -107,7 +109,7 @@ module _ (room : Text) (target : Id) where
       let (there, same) = filter_has (λ x. same_id (id x) target) row rows h in
       sym (any_found id (is_it id name) rows) ∙ any_has (is_it id name) row rows (and_from (same_id (id row) target) (bytes_eq (name row) room) same (same_name (name row) room named)) there
 
-  has_row : (t : Tables) → has_booking room target t ≡ true → HasRowOfRoom (in_scope (OfTarget target) t) room
+  has_row : (t : Tables) → has_booking_id room target t ≡ true → HasRowOfRoom (in_scope (OfTarget target) t) room
   has_row t = go (find_booking room target t) refl (find_error room target t) refl (find_cancelled room target t) refl
     where
       go : (b : Option BookingRow) → find_booking room target t ≡ b → (e : Option ErrorRow) → find_error room target t ≡ e
@@ -117,7 +119,7 @@ module _ (room : Text) (target : Id) where
       go None f None g (Some row) k h = let (there, named) = of_found cancelled_id (λ r. r.room) t.cancelled row k in cancelled row there named
       go None f None g None k h = absurd (true≢false (sym h))
 
-  row_has : (t : Tables) → HasRowOfRoom (in_scope (OfTarget target) t) room → has_booking room target t ≡ true
+  row_has : (t : Tables) → HasRowOfRoom (in_scope (OfTarget target) t) room → has_booking_id room target t ≡ true
   row_has t (booked row there named) =
       or_left (is_some (find_booking room target t) || is_some (find_error room target t)) (is_some (find_cancelled room target t))
       (or_left (is_some (find_booking room target t)) (is_some (find_error room target t)) (is_found booking_id (λ r. r.room) t.booking row there named))
@@ -129,8 +131,8 @@ module _ (room : Text) (target : Id) where
       (is_found cancelled_id (λ r. r.room) t.cancelled row there named)
 
   -- what the tables say of it is what the replica knows
-  pub booking_told : (a : Replica) {t u : Tables} {b : Bool} → t ≡ u → Stands u a → b ≡ has_booking room target t → knows_booking a room target ≡ b
+  pub booking_told : (a : Replica) {t u : Tables} {b : Bool} → t ≡ u → Stands u a → b ≡ has_booking_id room target t → knows_booking a room target ≡ b
   booking_told a {t} {u} view h told =
       let tells = target_known a room target h.sound in
-      bool_same (knows_booking a room target) (has_booking room target (tables_of a)) (λ e. row_has (tables_of a) (tells.0 e)) (λ e. tells.1 (has_row (tables_of a) e))
-      ∙ ap (has_booking room target) (sym (view ∙ h.are)) ∙ sym told
+      bool_same (knows_booking a room target) (has_booking_id room target (tables_of a)) (λ e. row_has (tables_of a) (tells.0 e)) (λ e. tells.1 (has_row (tables_of a) e))
+      ∙ ap (has_booking_id room target) (sym (view ∙ h.are)) ∙ sym told

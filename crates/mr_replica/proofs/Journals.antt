@@ -16,7 +16,7 @@ use Rattle.mr_tables.specs.TableOrders.{InOrder, id_order}
 use Rattle.mr_tables.proofs.Putting.{has_put, has_without, in_order_same, put_has, put_in_order, without_has}
 use Rattle.mr_base.specs.Ids.{id_cmp}
 use Rattle.mr_replay.proofs.IdKeys.{at_is, same_id_equivalence}
-use Rattle.mr_replica.specs.Journal.{AreSteps, IsStep, is_going, rows_but}
+use Rattle.mr_replica.specs.Journal.{AreSteps, IsRowStep, is_going, rows_but}
 use Rattle.mr_replica.proofs.RowsById.{one_row}
 
 -- a row that isn't found isn't there
@@ -50,7 +50,8 @@ module _ {R : Type 0} (id : R → Id) where
   -- one that was new
   pub new_back : (x : R) (rows : List R) → Ordered rows → found (id x) rows ≡ None → rows_without id (id x ∷ []) (put id_before id x rows) ≡ rows
   new_back x rows s none =
-      in_order_same id_before id id_order (rows_without id (id x ∷ []) (put id_before id x rows)) rows (without_order (id x ∷ []) (put id_before id x rows) (put_in_order id_before id id_order x rows s)) s to back
+      in_order_same id_before id id_order (rows_without id (id x ∷ []) (put id_before id x rows)) rows
+      (without_order (id x ∷ []) (put id_before id x rows) (put_in_order id_before id id_order x rows s)) s to back
     where
       left : (y : R) → (Has (id y) (id x ∷ []) → ⊥) → (y ≡ x) ⊎ (Has y rows × (id y ≡ id x → ⊥)) → Has y rows
       left y f (inl e) = absurd (f (inl (ap id e)))
@@ -123,9 +124,11 @@ module _ {R : Type 0} (id : R → Id) where
       all (x ∷ rows) = ap (λ ys. x ∷ ys) (all rows)
 
   -- the row that is put doesn't go any more
-  pub put_but : (test next : Id → Bool) (x : R) (rows : List R) → Ordered rows → ((i : Id) → next i ≡ cond (same_id i (id x)) false (test i)) → rows_but id next (put id_before id x rows) ≡ put id_before id x (rows_but id test rows)
+  pub put_but : (test next : Id → Bool) (x : R) (rows : List R) → Ordered rows → ((i : Id) → next i ≡ cond (same_id i (id x)) false (test i))
+      → rows_but id next (put id_before id x rows) ≡ put id_before id x (rows_but id test rows)
   put_but test next x rows s is =
-      in_order_same id_before id id_order (rows_but id next (put id_before id x rows)) (put id_before id x (rows_but id test rows)) (but_order next (put id_before id x rows) (put_in_order id_before id id_order x rows s)) (put_in_order id_before id id_order x (rows_but id test rows) (but_order test rows s)) to back
+      in_order_same id_before id id_order (rows_but id next (put id_before id x rows)) (put id_before id x (rows_but id test rows))
+      (but_order next (put id_before id x rows) (put_in_order id_before id id_order x rows s)) (put_in_order id_before id id_order x (rows_but id test rows) (but_order test rows s)) to back
     where
       same : (i : Id) → (i ≡ id x → ⊥) → next i ≡ test i
       same i differ = is i ∙ ap (λ b. cond b false (test i)) (apart i (id x) differ)
@@ -154,7 +157,8 @@ module _ {R : Type 0} (id : R → Id) where
       back y h = right y (put_has id_before id id_order y x (rows_but id test rows) (but_order test rows s) h)
 
   -- one of those that are to go is taken away
-  pub take_but : (test next : Id → Bool) (i : Id) (rows : List R) → test i ≡ true → ((j : Id) → next j ≡ cond (same_id j i) false (test j)) → rows_but id next (rows_without id (i ∷ []) rows) ≡ rows_but id test rows
+  pub take_but : (test next : Id → Bool) (i : Id) (rows : List R) → test i ≡ true
+      → ((j : Id) → next j ≡ cond (same_id j i) false (test j)) → rows_but id next (rows_without id (i ∷ []) rows) ≡ rows_but id test rows
   take_but test next i [] goes is = refl
   take_but test next i (x ∷ rows) goes is =
       go (same_id (id x) i) refl (take_but test next i rows goes is)
@@ -165,26 +169,31 @@ module _ {R : Type 0} (id : R → Id) where
       here : same_id (id x) i ≡ true → test (id x) ≡ true
       here e = ap test (same_id-true (id x) i e) ∙ goes
 
-      go : (b : Bool) → same_id (id x) i ≡ b → Rest → rows_but id next (cond (not (b || false)) (x ∷ rows_without id (i ∷ []) rows) (rows_without id (i ∷ []) rows)) ≡ cond (not (test (id x))) (x ∷ rows_but id test rows) (rows_but id test rows)
+      go : (b : Bool) → same_id (id x) i ≡ b → Rest → rows_but id next (cond (not (b || false)) (x ∷ rows_without id (i ∷ []) rows) (rows_without id (i ∷ []) rows))
+          ≡ cond (not (test (id x))) (x ∷ rows_but id test rows) (rows_but id test rows)
       go true e ih = ih ∙ ap (λ b. cond (not b) (x ∷ rows_but id test rows) (rows_but id test rows)) (sym (here e))
       go false e ih =
           ap (λ b. cond (not b) (x ∷ rows_but id next (rows_without id (i ∷ []) rows)) (rows_but id next (rows_without id (i ∷ []) rows))) (is (id x) ∙ ap (λ b. cond b false (test (id x))) e)
           ∙ ap (λ ys. cond (not (test (id x))) (x ∷ ys) ys) ih
 
   -- as it is said of the same ids and rows
-  pub made_of : (rows : List R) (taken gone : List Id) (given news old : List R) → rows ≡ put_all id_before id given (rows_without id taken old) → taken ≡ gone → given ≡ news → rows ≡ put_all id_before id news (rows_without id gone old)
+  pub made_of : (rows : List R) (taken gone : List Id) (given news old : List R) → rows ≡ put_all id_before id given (rows_without id taken old)
+      → taken ≡ gone → given ≡ news → rows ≡ put_all id_before id news (rows_without id gone old)
   made_of rows taken gone given news old made g n = made ∙ (λ t. put_all id_before id (n t) (rows_without id (g t) old))
 
   -- ---- steps
 
   -- the last one is first
-  pub last_step : (knows : R → Type 0) (steps : List (Id × Option R)) (step : Id × Option R) (before now : List R) → AreSteps id knows (reverse (steps ++ step ∷ [])) before now → (mid : List R) × IsStep id knows step mid now × AreSteps id knows (reverse steps) before mid
+  pub last_step : (knows : R → Type 0) (steps : List (Id × Option R)) (step : Id × Option R) (before now : List R)
+      → AreSteps id knows (reverse (steps ++ step ∷ [])) before now → (mid : List R) × IsRowStep id knows step mid now × AreSteps id knows (reverse steps) before mid
   last_step knows steps step before now h = subst (λ xs. AreSteps id knows xs before now) (reverse-append steps (step ∷ [])) h
 
   -- more keys are known
-  pub steps_more : (knows more : R → Type 0) → ((r : R) → knows r → more r) → (steps : List (Id × Option R)) (before now : List R) → AreSteps id knows steps before now → AreSteps id more steps before now
+  pub steps_more : (knows more : R → Type 0) → ((r : R) → knows r → more r) → (steps : List (Id × Option R)) (before now : List R)
+      → AreSteps id knows steps before now → AreSteps id more steps before now
   steps_more knows more up [] before now h = h
-  steps_more knows more up (step ∷ older) before now (mid, one, rest) = (mid, record { row = one.row; order = one.order; put = one.put; its_id = one.its_id; old = one.old; known = λ r h. up r (one.known r h) }, steps_more knows more up older before mid rest)
+  steps_more knows more up (step ∷ older) before now (mid, one, rest) =
+      (mid, record { row = one.row; order = one.order; put = one.put; its_id = one.its_id; old = one.old; known = λ r h. up r (one.known r h) }, steps_more knows more up older before mid rest)
 
 -- ---- sets of ids
 
@@ -207,12 +216,13 @@ none_going going none i = go going.keys none
 
 module _ {R : Type 0} (id : R → Id) (knows : R → Type 0) where
   -- where a row was new
-  pub taken_back : (i : Id) (before now new : List R) → IsStep id knows (i, None) before now → new ≡ rows_without id (i ∷ []) now → new ≡ before
+  pub taken_back : (i : Id) (before now new : List R) → IsRowStep id knows (i, None) before now → new ≡ rows_without id (i ∷ []) now → new ≡ before
   taken_back i before now new step taken =
       taken ∙ ap (λ j. rows_without id (j ∷ []) now) step.its_id ∙ ap (rows_without id (id step.row ∷ [])) step.put ∙ new_back id step.row before step.order (sym step.old)
 
   -- where it came in the place of another, which is put again
-  pub put_again : {X E : Type 0} (i : Id) (row : R) (before now new : List R) (r : Result X E) → IsStep id knows (i, Some row) before now → OnOk r (new ≡ put id_before id row now) → (knows row → OnErr r (find (λ x. same_id (id x) (id row)) now ≡ None)) → new ≡ before
+  pub put_again : {X E : Type 0} (i : Id) (row : R) (before now new : List R) (r : Result X E) → IsRowStep id knows (i, Some row) before now
+      → OnOk r (new ≡ put id_before id row now) → (knows row → OnErr r (find (λ x. same_id (id x) (id row)) now ≡ None)) → new ≡ before
   put_again {X} {E} i row before now new r step made absent = go r made (absent (step.known row there.0))
     where
       there : Has row before × (same_id (id row) (id step.row) ≡ true)

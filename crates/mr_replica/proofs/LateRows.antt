@@ -26,7 +26,8 @@ use Rattle.mr_replica.proofs.LogEnds.{commits_between, tail_between}
 use Rattle.mr_replica.proofs.NamedRows.{those_same}
 
 -- of one room
-pub late_in_room : (room : Text) (tail : Tail) (all rows : List LogRow) → AreBetween log_key (tail_end room tail) (tail_end room Nothing) all rows → AreThose (is_late_in (λ name. bytes_eq name room) tail) all (filter (λ r. bytes_eq r.room room) rows)
+pub late_in_room : (room : Text) (tail : Tail) (all rows : List LogRow) → AreBetween log_key (tail_end room tail) (tail_end room Nothing) all rows
+    → AreThose (is_late_in (λ name. bytes_eq name room) tail) all (filter (λ r. bytes_eq r.room room) rows)
 late_in_room room tail all rows found = (
   λ r h.
       let (there, same) = filter_has (λ r. bytes_eq r.room room) r rows h in
@@ -38,7 +39,8 @@ late_in_room room tail all rows found = (
 )
 
 -- of one room more
-pub late_next : (tail : Tail) (room : Text) (rest : List Text) (p : Bool) (r : LogRow) → ((p || is_late_in (λ name. bytes_eq name room) tail r) || is_late_in (λ name. list_any (bytes_eq name) rest) tail r) ≡ (p || is_late_in (λ name. list_any (bytes_eq name) (room ∷ rest)) tail r)
+pub late_next : (tail : Tail) (room : Text) (rest : List Text) (p : Bool) (r : LogRow)
+    → ((p || is_late_in (λ name. bytes_eq name room) tail r) || is_late_in (λ name. list_any (bytes_eq name) rest) tail r) ≡ (p || is_late_in (λ name. list_any (bytes_eq name) (room ∷ rest)) tail r)
 late_next tail room rest p r = go p (is_tentative r && has_place tail r.time r.server) (bytes_eq r.room room)
   where
     go : (p late one : Bool) → ((p || (late && one)) || (late && list_any (bytes_eq r.room) rest)) ≡ (p || (late && (one || list_any (bytes_eq r.room) rest)))
@@ -65,7 +67,8 @@ module _ (known : ℕ) where
   none_new [] none = refl
   none_new (W w ∷ items) none = none_new items none
   none_new (C seq id ∷ items) none =
-      (λ t. old (nat_lt known seq) (or_parts (nat_lt known seq && same_id id id) (list_any (commits_id known id) items) (none id)).0 t || none_new items (λ j. (or_parts (nat_lt known seq && same_id id j) (list_any (commits_id known j) items) (none j)).1) t)
+      (λ t. old (nat_lt known seq) (or_parts (nat_lt known seq && same_id id id) (list_any (commits_id known id) items) (none id)).0 t
+      || none_new items (λ j. (or_parts (nat_lt known seq && same_id id j) (list_any (commits_id known j) items) (none j)).1) t)
     where
       old : (b : Bool) → (b && same_id id id) ≡ false → b ≡ false
       old true e = sym (same_id_refl id) ∙ e
@@ -76,21 +79,26 @@ module _ (known : ℕ) where
   one_new (W w ∷ items) id some = one_new items id some
   one_new (C seq other ∷ items) id some = go (one_new items id) (or_cases (nat_lt known seq && same_id other id) (list_any (commits_id known id) items) some)
     where
-      go : (list_any (commits_id known id) items ≡ true → list_any (is_new_commit known) items ≡ true) → ((nat_lt known seq && same_id other id) ≡ true) ⊎ (list_any (commits_id known id) items ≡ true) → (nat_lt known seq || list_any (is_new_commit known) items) ≡ true
+      go : (list_any (commits_id known id) items ≡ true → list_any (is_new_commit known) items ≡ true) → ((nat_lt known seq && same_id other id) ≡ true)
+          ⊎ (list_any (commits_id known id) items ≡ true) → (nat_lt known seq || list_any (is_new_commit known) items) ≡ true
       go ih (inl e) = or_left (nat_lt known seq) (list_any (is_new_commit known) items) (and_parts (nat_lt known seq) (same_id other id) e).0
       go ih (inr e) = or_right (nat_lt known seq) (list_any (is_new_commit known) items) (ih e)
 
   -- it has none if it names no id by one
-  pub no_commit : (items : List Item) (ids : List Id) → ((id : Id) → list_any (is_at (id_cmp id)) ids ≡ list_any (commits_id known id) items) → length ids ≡ 0 → list_any (is_new_commit known) items ≡ false
+  pub no_commit : (items : List Item) (ids : List Id) → ((id : Id) → list_any (is_at (id_cmp id)) ids ≡ list_any (commits_id known id) items)
+      → length ids ≡ 0 → list_any (is_new_commit known) items ≡ false
   no_commit items [] named none = none_new items (λ id. sym (named id))
   no_commit items (id ∷ ids) named none = absurd (omega (arith, none))
 
-  pub some_commit : (items : List Item) (ids : List Id) → ((id : Id) → list_any (is_at (id_cmp id)) ids ≡ list_any (commits_id known id) items) → (length ids ≡ 0 → ⊥) → list_any (is_new_commit known) items ≡ true
+  pub some_commit : (items : List Item) (ids : List Id) → ((id : Id) → list_any (is_at (id_cmp id)) ids ≡ list_any (commits_id known id) items)
+      → (length ids ≡ 0 → ⊥) → list_any (is_new_commit known) items ≡ true
   some_commit items [] named some = absurd (some refl)
   some_commit items (id ∷ ids) named some = one_new items id (sym (named id) ∙ or_left (is_at (id_cmp id) id) (list_any (is_at (id_cmp id)) ids) (at_equivalence.refl id))
 
 -- where it has no new commit
-pub late_written : (known : ℕ) (items : List Item) (rooms : BTreeSet Text) (tail : Tail) (all rows : List LogRow) → list_any (is_new_commit known) items ≡ false → IsTail tail known items → ((room : Text) → has_room rooms room ≡ list_any (writes_in room) items) → AreThose (is_late_in (has_room rooms) tail) all rows → AreThose (is_late_row known items) all rows
+pub late_written : (known : ℕ) (items : List Item) (rooms : BTreeSet Text) (tail : Tail) (all rows : List LogRow)
+    → list_any (is_new_commit known) items ≡ false → IsTail tail known items → ((room : Text) → has_room rooms room ≡ list_any (writes_in room) items)
+    → AreThose (is_late_in (has_room rooms) tail) all rows → AreThose (is_late_row known items) all rows
 late_written known items rooms tail all rows none tells written =
     those_same (is_late_in (has_room rooms) tail) (is_late_row known items) all rows
     (λ r.

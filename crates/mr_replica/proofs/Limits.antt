@@ -22,6 +22,7 @@ tables_within a sound = record {
 }
   where
     each : (s : ℕ) (none : Bool)
-        → AllByRecursion (λ (row : VectorRow). row.count ≤ 999_999_999) (if none then [] else record { server = s; count = count_of a s; last_time = last_time a s; committed = committed_count a s } ∷ [])
+        → AllByRecursion (λ (row : VectorRow). row.count ≤ 999_999_999)
+        (if none then [] else record { server = s; count = count_of a s; last_time = last_time a s; committed = committed_count a s } ∷ [])
     each s true = tt
     each s false = (count_within a s sound, tt)

@@ -22,11 +22,11 @@ use Rattle.mr_tables.specs.TableOrders.{InOrder}
 use Rattle.mr_replica.specs.declared.row_key.RowKey.{RowKey}
 use Rattle.mr_replica.specs.Calendar.{is_asked, AreListed}
 use Rattle.mr_replica.specs.Picked.{is_day_asked, booking_before}
-use Rattle.mr_replica.specs.RowKeys.{key_cmp, key_before, key_at, booking_key, end_key, is_between, AreBetween}
+use Rattle.mr_replica.specs.RowKeys.{row_key_cmp, key_before, key_at, booking_key, row_end_key, is_between, AreBetween}
 use Rattle.mr_replica.proofs.ByKeys.{tied, tied_names, picked}
 use Rattle.mr_replica.proofs.CalendarOrder.{booking_total, booking_cmp-before}
-use Rattle.mr_replica.proofs.LogEnds.{less_from}
 use Rattle.mr_replica.proofs.SameMembers.{sorted_by}
+use Rattle.mr_replay.proofs.IdKeys.{is_lt-Less}
 
 tied_days : (day : Date) (o : Ordering) → ordering_then (nat_cmp day.year day.year) (ordering_then (nat_cmp day.month day.month) (ordering_then (nat_cmp day.day day.day) o)) ≡ o
 tied_days day o = tied day.year _ ∙ tied day.month _ ∙ tied day.day o
@@ -35,13 +35,14 @@ module _ (room : Text) (day : Option Date) where
   -- ---- the ends
 
   -- the key of a row of the room and the day is between the ends
-  pub inside : (name : Text) (date : Date) (start : ℕ) (i : Id) → bytes_eq name room ≡ true → is_day_asked day date ≡ true → is_between (end_key 0 room day) (end_key 2 room day) (key_at 1 name 1 date 1 start i) ≡ true
+  pub inside : (name : Text) (date : Date) (start : ℕ) (i : Id) → bytes_eq name room ≡ true → is_day_asked day date ≡ true
+      → is_between (row_end_key 0 room day) (row_end_key 2 room day) (key_at 1 name 1 date 1 start i) ≡ true
   inside name date start i same on = within day (one_name name room same) on
     where
       names : name ≡ room → (o : Ordering) → ordering_then (slice_cmp nat_cmp (padded room) (padded name)) o ≡ o
       names is o = ap (λ n. ordering_then (slice_cmp nat_cmp (padded room) (padded n)) o) is ∙ tied_names (padded room) o
 
-      within : (d : Option Date) → name ≡ room → is_day_asked d date ≡ true → is_between (end_key 0 room d) (end_key 2 room d) (key_at 1 name 1 date 1 start i) ≡ true
+      within : (d : Option Date) → name ≡ room → is_day_asked d date ≡ true → is_between (row_end_key 0 room d) (row_end_key 2 room d) (key_at 1 name 1 date 1 start i) ≡ true
       within None is on = and_from _ _ (ap is_le (names is Less)) (ap (λ o. not (is_lt o)) (names is Greater))
       within (Some d) is on =
           let days : date ≡ d = same_date-true date d on in
@@ -50,10 +51,10 @@ module _ (room : Text) (day : Option Date) where
           in
           and_from _ _ (ap is_le (names is _ ∙ ends Less)) (ap (λ o. not (is_lt o)) (names is _ ∙ ends Greater))
 
-  pub ends_rise : (first last : RowKey) → first ≡ end_key 0 room day → last ≡ end_key 2 room day → is_gt (key_cmp first last) ≡ false
-  ends_rise first last p q = (λ t. is_gt (key_cmp (p t) (q t))) ∙ go day
+  pub ends_rise : (first last : RowKey) → first ≡ row_end_key 0 room day → last ≡ row_end_key 2 room day → is_gt (row_key_cmp first last) ≡ false
+  ends_rise first last p q = (λ t. is_gt (row_key_cmp (p t) (q t))) ∙ go day
     where
-      go : (d : Option Date) → is_gt (key_cmp (end_key 0 room d) (end_key 2 room d)) ≡ false
+      go : (d : Option Date) → is_gt (row_key_cmp (row_end_key 0 room d) (row_end_key 2 room d)) ≡ false
       go None = ap is_gt (tied_names (padded room) Less)
       go (Some d) = ap is_gt (tied_names (padded room) _ ∙ tied_days d Less)
 
@@ -71,24 +72,29 @@ module _ (room : Text) (day : Option Date) where
   calm : (a b : BookingRow) → a.room ≡ room → b.room ≡ room → key_before (booking_key a) (booking_key b) ≡ true → booking_before b a ≡ false
   calm a b p q less =
       sym (booking_cmp-before b a)
-      ∙ ap is_lt (booking_total.antisymm b a ∙ ap ordering_reverse (sym (joined (nat_cmp a.day.year b.day.year) (nat_cmp a.day.month b.day.month) (nat_cmp a.day.day b.day.day) _) ∙ sym names ∙ less_from _ less))
+      ∙ ap is_lt (booking_total.antisymm b a
+      ∙ ap ordering_reverse (sym (joined (nat_cmp a.day.year b.day.year) (nat_cmp a.day.month b.day.month) (nat_cmp a.day.day b.day.day) _) ∙ sym names ∙ is_lt-Less _ less))
     where
       rest : Ordering
-      rest = ordering_then (nat_cmp a.day.year b.day.year) (ordering_then (nat_cmp a.day.month b.day.month) (ordering_then (nat_cmp a.day.day b.day.day) (ordering_then (nat_cmp a.start b.start) (ordering_then (nat_cmp a.server b.server) (nat_cmp a.n b.n)))))
+      rest = ordering_then (nat_cmp a.day.year b.day.year) (ordering_then (nat_cmp a.day.month b.day.month)
+          (ordering_then (nat_cmp a.day.day b.day.day) (ordering_then (nat_cmp a.start b.start) (ordering_then (nat_cmp a.server b.server) (nat_cmp a.n b.n)))))
 
-      names : key_cmp (booking_key a) (booking_key b) ≡ rest
+      names : row_key_cmp (booking_key a) (booking_key b) ≡ rest
       names = (λ t. ordering_then (slice_cmp nat_cmp (padded (p t)) (padded (q t))) rest) ∙ tied_names (padded room) rest
 
   calm_all : (rs : List BookingRow) → ((r : BookingRow) → Has r rs → r.room ≡ room) → InOrder key_before booking_key rs → Sorted (λ a b. booking_before b a ≡ false) rs
   calm_all [] in_room s = tt
-  calm_all (r ∷ rs) in_room s =
-      (has_all (λ y. booking_before y r ≡ false) rs (λ y h. calm r y (in_room r (inl refl)) (in_room y (inr h)) (all_has (λ y. key_before (booking_key r) (booking_key y) ≡ true) y rs s.0 h)), calm_all rs (λ y h. in_room y (inr h)) s.1)
+  calm_all (r ∷ rs) in_room s = (
+    has_all (λ y. booking_before y r ≡ false) rs (λ y h. calm r y (in_room r (inl refl)) (in_room y (inr h)) (all_has (λ y. key_before (booking_key r) (booking_key y) ≡ true) y rs s.0 h)),
+    calm_all rs (λ y h. in_room y (inr h)) s.1,
+  )
 
   -- ---- what is listed
 
-  pub listed : (all rows : List BookingRow) → InOrder id_before booking_id all → AreBetween booking_key (end_key 0 room day) (end_key 2 room day) all rows → AreListed room day all (filter (is_asked room day) rows)
+  pub listed : (all rows : List BookingRow) → InOrder id_before booking_id all
+      → AreBetween booking_key (row_end_key 0 room day) (row_end_key 2 room day) all rows → AreListed room day all (filter (is_asked room day) rows)
   listed all rows order found = (
-    picked booking_id booking_key (λ r. refl) (end_key 0 room day) (end_key 2 room day) all rows (is_asked room day) order found
+    picked booking_id booking_key (λ r. refl) (row_end_key 0 room day) (row_end_key 2 room day) all rows (is_asked room day) order found
         (λ r asked.
         let parts = and_parts (bytes_eq r.room room) (is_day_asked day r.day) asked in
         inside r.room r.day r.start (booking_id r) parts.0 parts.1),

@@ -1,5 +1,6 @@
 -- The rows of the log that a command needs are those with keys between two ends.
-use Rattle.std.proofs.Common.{◌≡◌, refl, sym, ap, ◌∙◌, ℕ, ◌≤◌, ◌<◌, Bool, true, false, not, cond, ◌&&◌, ◌||◌, ◌==◌, List, [], ◌∷◌, ◌⊎◌, inl, inr, arith, eqb, ltb, leb, eq-eqb, eqb-true, lt-ltb, ltb-true}
+use Rattle.std.proofs.Common.{◌≡◌, refl, sym, ap, ◌∙◌, ℕ, ◌≤◌, ◌<◌, Bool, true, false, not, cond, ◌&&◌, ◌||◌, ◌==◌}
+use Rattle.std.proofs.Common.{List, [], ◌∷◌, ◌⊎◌, inl, inr, arith, eqb, ltb, leb, eq-eqb, eqb-true, lt-ltb, ltb-true}
 use Rattle.std.specs.Cmp.Lexicographic.{slice_cmp}
 use Rattle.std.specs.List.{filter}
 use Rattle.std.specs.List.Sorted.{IsPermutation, IsSortedByKey}
@@ -21,12 +22,12 @@ use Rattle.mr_model.specs.Texts.{Text, within}
 use Rattle.mr_model.specs.Writes.{Id}
 use Rattle.mr_base.specs.Ids.{id_cmp}
 use Rattle.mr_replay.specs.Index.{padded}
-use Rattle.mr_replay.proofs.IdKeys.{ids_total}
+use Rattle.mr_replay.proofs.IdKeys.{ids_total, is_lt-Less}
 use Rattle.mr_replica.specs.declared.row_key.RowKey.{RowKey}
 use Rattle.mr_part.specs.declared.tail.Tail.{Tail}
 use Rattle.mr_part.specs.declared.tail.Tail.TheVariants.{Everything, From, Nothing}
 use Rattle.mr_part.specs.Tails.{has_place}
-use Rattle.mr_replica.specs.RowKeys.{is_between, key_at, key_before, key_cmp, log_end, log_key, number_end, numbered, stamped, tail_end, AreBetween}
+use Rattle.mr_replica.specs.RowKeys.{is_between, key_at, key_before, row_key_cmp, log_end, log_key, number_end, numbered, stamp_date, tail_end, AreBetween}
 use Rattle.mr_replica.proofs.ByKeys.{at_itself, tied, tied_names}
 use Rattle.mr_replica.proofs.RowsById.{before_is}
 
@@ -43,7 +44,7 @@ up_to false false = refl
 
 -- the key of a row that is tentative, or isn't
 abbrev key_if : LogRow → Bool → RowKey
-key_if row b = key_at (cond b 3 1) (cond b row.room []) 1 (cond b (stamped row.time row.server) (numbered row.seq)) 1 0 (log_id row)
+key_if row b = key_at (cond b 3 1) (cond b row.room []) 1 (cond b (stamp_date row.time row.server) (numbered row.seq)) 1 0 (log_id row)
 
 pub commits_between : (row : LogRow) → is_between (log_end 2) (log_end 4) (log_key row) ≡ is_tentative row
 commits_between row = go (is_tentative row)
@@ -69,12 +70,14 @@ from_place time server t s = go (cases_order time t)
     servers (inr (inr l)) = grind (arith, nat_tests)
 
     go : (time ≡ t) ⊎ ((time < t) ⊎ (t < time)) → is_le (ordering_then (nat_cmp time t) (ordering_then (nat_cmp server s) Less)) ≡ not (time_before t s time server)
-    go (inl e) = ap (λ u. is_le (ordering_then (nat_cmp time u) (ordering_then (nat_cmp server s) Less))) (sym e) ∙ ap (λ o. is_le (ordering_then o (ordering_then (nat_cmp server s) Less))) (tied_itself nat_cmp_total time) ∙ servers (cases_order server s) ∙ grind (arith, nat_tests)
+    go (inl e) = ap (λ u. is_le (ordering_then (nat_cmp time u) (ordering_then (nat_cmp server s) Less))) (sym e)
+        ∙ ap (λ o. is_le (ordering_then o (ordering_then (nat_cmp server s) Less))) (tied_itself nat_cmp_total time) ∙ servers (cases_order server s) ∙ grind (arith, nat_tests)
     go (inr (inl l)) = grind (arith, nat_tests)
     go (inr (inr l)) = grind (arith, nat_tests)
 
 -- the rows of a room that are in a tail
-pub tail_between : (room : Text) (tail : Tail) (row : LogRow) → row.room ≡ room → is_between (tail_end room tail) (tail_end room Nothing) (log_key row) ≡ (is_tentative row && has_place tail row.time row.server)
+pub tail_between : (room : Text) (tail : Tail) (row : LogRow) → row.room ≡ room
+    → is_between (tail_end room tail) (tail_end room Nothing) (log_key row) ≡ (is_tentative row && has_place tail row.time row.server)
 tail_between room tail row is = (λ t. is_between (tail_end (sym is t) tail) (tail_end (sym is t) Nothing) (log_key row)) ∙ own tail
   where
     names : (o : Ordering) → ordering_then (slice_cmp nat_cmp (padded row.room) (padded row.room)) o ≡ o
@@ -99,7 +102,7 @@ tail_between room tail row is = (λ t. is_between (tail_end (sym is t) tail) (ta
         go true = (λ t. is_le (names Greater t) && not (is_lt (names Greater t)))
         go false = refl
 
-pub tail_forward : (room : Text) (tail : Tail) → is_gt (key_cmp (tail_end room tail) (tail_end room Nothing)) ≡ false
+pub tail_forward : (room : Text) (tail : Tail) → is_gt (row_key_cmp (tail_end room tail) (tail_end room Nothing)) ≡ false
 tail_forward room Everything = ap is_gt (tied_names (padded room) Less)
 tail_forward room (From time server) = ap is_gt (tied_names (padded room) Less)
 tail_forward room Nothing = ap is_gt (at_itself (tail_end room Nothing))
@@ -115,13 +118,14 @@ number_between number row = go (is_tentative row)
     go true = refl
     go false = of_number number row.seq
 
-pub number_forward : (number : ℕ) → is_gt (key_cmp (number_end 0 number) (number_end 2 number)) ≡ false
+pub number_forward : (number : ℕ) → is_gt (row_key_cmp (number_end 0 number) (number_end 2 number)) ≡ false
 number_forward number = ap is_gt (tied number Less)
 
 not_above : (number n : ℕ) → eqb n 0 ≡ false → not (ltb number n) ≡ within 1 number n
 not_above number n e = go (ltb number n) refl (leb_tells 1 n) (leb_tells n number)
   where
-    go : (b : Bool) → ltb number n ≡ b → ((leb 1 n ≡ true) × (1 ≤ n)) ⊎ ((leb 1 n ≡ false) × (n < 1)) → ((leb n number ≡ true) × (n ≤ number)) ⊎ ((leb n number ≡ false) × (number < n)) → not b ≡ within 1 number n
+    go : (b : Bool) → ltb number n ≡ b → ((leb 1 n ≡ true) × (1 ≤ n)) ⊎ ((leb 1 n ≡ false) × (n < 1))
+        → ((leb n number ≡ true) × (n ≤ number)) ⊎ ((leb n number ≡ false) × (number < n)) → not b ≡ within 1 number n
     go b is (inr (_, l)) high = absurd (true≢false (sym (eq-eqb n 0 (omega (arith, l))) ∙ e))
     go true is (inl (p, _)) (inl (q, l)) = let m = ltb-true number n is in let never : ⊥ = omega (arith, l, m) in absurd never
     go true is (inl (p, _)) (inr (q, _)) = sym (λ i. p i && q i)
@@ -137,18 +141,14 @@ up_to_between number row = go (is_tentative row) refl
 
 -- ---- in the order of ids
 
-pub less_from : (o : Ordering) → is_lt o ≡ true → o ≡ Less
-less_from Less e = refl
-less_from Equal e = let never : ⊥ = cc in absurd never
-less_from Greater e = let never : ⊥ = cc in absurd never
-
 pub rises : {R : Type 0} (id : R → Id) (rows : List R) → InOrder id_before id rows → Rises id_cmp id rows
 rises id [] s = tt
 rises id (x ∷ rows) s =
-    (has_all (λ y. id_cmp (id x) (id y) ≡ Less) rows (λ y h. less_from _ (before_is (id x) (id y) ∙ all_has (λ y. id_before (id x) (id y) ≡ true) y rows s.0 h)), rises id rows s.1)
+    (has_all (λ y. id_cmp (id x) (id y) ≡ Less) rows (λ y h. is_lt-Less _ (before_is (id x) (id y) ∙ all_has (λ y. id_before (id x) (id y) ≡ true) y rows s.0 h)), rises id rows s.1)
 
 -- the rows between two keys, sorted by their ids
-pub sorted_between : {R : Type 0} (id : R → Id) (key : R → RowKey) (first last : RowKey) (all rows sorted : List R) → InOrder id_before id all → AreBetween key first last all rows → IsPermutation rows sorted → IsSortedByKey id id_cmp sorted → sorted ≡ filter (λ r. is_between first last (key r)) all
+pub sorted_between : {R : Type 0} (id : R → Id) (key : R → RowKey) (first last : RowKey) (all rows sorted : List R) → InOrder id_before id all
+    → AreBetween key first last all rows → IsPermutation rows sorted → IsSortedByKey id id_cmp sorted → sorted ≡ filter (λ r. is_between first last (key r)) all
 sorted_between id key first last all rows sorted order found same by =
     sorted_is id_cmp ids_total id (λ a b. key_before (key a) (key b) ≡ true) (λ x e. true≢false (sym e ∙ ap is_lt (at_itself (key x))))
     rows sorted (filter (λ r. is_between first last (key r)) all) found.rise same by

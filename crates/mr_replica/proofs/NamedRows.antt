@@ -83,7 +83,8 @@ write_those w i all is =
     (those_picked (λ r. same_id (log_id r) i) all)
 
 -- the rows of a commit
-pub commit_those : (seq : ℕ) (id : Id) (all rows : List LogRow) → AreBetween log_key (number_end 0 seq) (number_end 2 seq) all rows → AreThose (is_named (C seq id ∷ [])) all (rows ++ filter (λ r. same_id (log_id r) id) all)
+pub commit_those : (seq : ℕ) (id : Id) (all rows : List LogRow) → AreBetween log_key (number_end 0 seq) (number_end 2 seq) all rows
+    → AreThose (is_named (C seq id ∷ [])) all (rows ++ filter (λ r. same_id (log_id r) id) all)
 commit_those seq id all rows found =
     those_same (λ r. is_between (number_end 0 seq) (number_end 2 seq) (log_key r) || same_id (log_id r) id) (is_named (C seq id ∷ [])) all (rows ++ filter (λ r. same_id (log_id r) id) all)
     (λ r. sym (commit_alone (same_id (log_id r) id) (not (is_tentative r)) (seq == r.seq) ∙ ap (λ b. b || same_id (log_id r) id) (sym (number_between seq r))))

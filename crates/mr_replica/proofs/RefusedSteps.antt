@@ -8,7 +8,8 @@ use Rattle.mr_model.specs.Exchange.{Header, Batch, read_batch}
 use Rattle.mr_model.specs.Taking.{Progress}
 use Rattle.mr_model.specs.Replies.{Refused, OutcomeIs}
 use Rattle.mr_model.specs.View.{outcome_of, outcome_reply}
-use Rattle.mr_model.specs.Step.{After, Command, AddRoom, Submit, Cancel, Receive, Commit, Truncate, AskPosition, BatchFor, Ask, step, step_unless, after_write, outcome_at, write_of, submit_faults, cancel_write, cancel_faults, after_items, receive_under, receive_read}
+use Rattle.mr_model.specs.Step.{After, Command, AddRoom, Submit, Cancel, Receive, Commit, Truncate, AskPosition, BatchFor, Ask, step, step_unless}
+use Rattle.mr_model.specs.Step.{after_write, outcome_at, write_of, submit_faults, cancel_write, cancel_faults, after_items, receive_under, receive_read}
 use Rattle.mr_model.proofs.RoomTold.{known_told, told_of_room}
 use Rattle.mr_model.proofs.StepsKeep.{step_keeps}
 use Rattle.mr_model.proofs.WithWrite.{has_with_write}
@@ -47,7 +48,8 @@ refused_leaves r (Submit s) e h is =
     (λ none bad. absurd (accepted r (write_of r s) e (subst (λ o. IsReplica (step_unless r o (after_write r (write_of r s))).replica) none (step_keeps r (Submit s) h)) bad)) is
 refused_leaves r (Cancel room id) e h is =
     unless_leaves r (first_refusal (cancel_faults r room id)) (after_write r (cancel_write r room id)) e
-    (λ none bad. absurd (accepted r (cancel_write r room id) e (subst (λ o. IsReplica (step_unless r o (after_write r (cancel_write r room id))).replica) none (step_keeps r (Cancel room id) h)) bad)) is
+    (λ none bad. absurd (accepted r (cancel_write r room id) e (subst (λ o. IsReplica (step_unless r o (after_write r (cancel_write r room id))).replica) none (step_keeps r (Cancel room id) h)) bad))
+    is
 refused_leaves r (Receive bytes) e h is = receive_leaves r (read_batch bytes) e is
 refused_leaves r (Commit k) e h is = unless_leaves r (only_if (not (eqb r.server r.primary)) NotPrimary) _ e (λ none bad. absurd (cc bad)) is
 refused_leaves r (Truncate n) e h is =

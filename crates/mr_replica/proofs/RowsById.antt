@@ -5,8 +5,7 @@ use Rattle.std.specs.BTreeMap.{insert_entry, is_at}
 use Rattle.std.specs.List.{AllByRecursion, filter, find, list_any}
 use Rattle.std.specs.Map.{values_of, lookup, remove_entry}
 use Rattle.std.specs.Option.{is_some, option_to_list}
-use Rattle.std.specs.Ordering.{is_lt, match_ordering, ordering_then, ordering_reverse, nat_cmp}
-use Rattle.std.specs.declared.cmp.Ordering.{Ordering}
+use Rattle.std.specs.Ordering.{is_lt, match_ordering, ordering_reverse, nat_cmp}
 use Rattle.std.specs.declared.cmp.Ordering.TheVariants.{Less, Equal, Greater}
 use Rattle.std.proofs.lemmas.Bool.{false_from_ne_true}
 use Rattle.std.proofs.lemmas.List.{append_assoc}
@@ -21,6 +20,7 @@ use Rattle.mr_tables.specs.Change.{id_before, put, rows_without}
 use Rattle.mr_tables.specs.TableOrders.{InOrder, id_order}
 use Rattle.mr_tables.proofs.Putting.{one_a_key, put_in_order}
 use Rattle.mr_replica.specs.Keyed.{IsKeyed, if_passes}
+use Rattle.mr_replica.proofs.CalendarOrder.{less_then, less}
 
 -- it holds whatever the result
 pub on_err : {X E P : Type 0} (r : Result X E) → P → OnErr r P
@@ -28,16 +28,6 @@ on_err (Ok x) p = tt
 on_err (Err e) p = p
 
 -- ---- the order of ids
-
-less : (b e : Bool) → is_lt (cond b Less (cond e Equal Greater)) ≡ b
-less true e = refl
-less false true = refl
-less false false = refl
-
-less_then : (b e : Bool) (o : Ordering) → is_lt (ordering_then (cond b Less (cond e Equal Greater)) o) ≡ (b || (e && is_lt o))
-less_then true e o = refl
-less_then false true o = refl
-less_then false false o = refl
 
 pub before_is : (i j : Id) → is_lt (id_cmp i j) ≡ id_before i j
 before_is i j =
@@ -79,7 +69,8 @@ module _ {R : Type 0} (id : R → Id) where
   apart : (x : R) (rows : List R) → InOrder id_before id (x ∷ rows) → (i : Id) → same_id (id x) i ≡ true → (y : R) → Has y rows → same_id (id y) i ≡ false
   apart x rows s i is y h =
       false_from_ne_true (same_id (id y) i)
-      (λ also. id_order.irreflexive (id x) (subst (λ j. id_before (id x) j ≡ true) (same_id-true (id y) i also ∙ sym (same_id-true (id x) i is)) (all_has (λ u. id_before (id x) (id u) ≡ true) y rows s.0 h)))
+      (λ also. id_order.irreflexive (id x)
+      (subst (λ j. id_before (id x) j ≡ true) (same_id-true (id y) i also ∙ sym (same_id-true (id x) i is)) (all_has (λ u. id_before (id x) (id u) ≡ true) y rows s.0 h)))
 
   stay : (i : Id) (rows : List R) → ((y : R) → Has y rows → same_id (id y) i ≡ false) → rows_without id (i ∷ []) rows ≡ rows
   stay i [] lacks = refl
@@ -100,7 +91,8 @@ module _ {R : Type 0} (id : R → Id) where
   picked_one i [] s = refl
   picked_one i (x ∷ rows) s = go (same_id (id x) i) refl (picked_one i rows s.1)
     where
-      go : (b : Bool) → same_id (id x) i ≡ b → with_id i rows ≡ option_to_list (find (λ r. same_id (id r) i) rows) → cond b (x ∷ with_id i rows) (with_id i rows) ≡ option_to_list (cond b (Some x) (find (λ r. same_id (id r) i) rows))
+      go : (b : Bool) → same_id (id x) i ≡ b → with_id i rows ≡ option_to_list (find (λ r. same_id (id r) i) rows)
+          → cond b (x ∷ with_id i rows) (with_id i rows) ≡ option_to_list (cond b (Some x) (find (λ r. same_id (id r) i) rows))
       go true is ih = ap (λ ys. x ∷ ys) (none_picked i rows (apart x rows s i is))
       go false other ih = ih
 
@@ -113,7 +105,8 @@ module _ {R : Type 0} (id : R → Id) where
       one is true = refl
       one is false = none_found i q rows (apart x rows s i is)
 
-      go : (b : Bool) → same_id (id x) i ≡ b → find (λ r. same_id (id r) i && q r) rows ≡ if_passes q (find (λ r. same_id (id r) i) rows) → cond (b && q x) (Some x) (find (λ r. same_id (id r) i && q r) rows) ≡ if_passes q (cond b (Some x) (find (λ r. same_id (id r) i) rows))
+      go : (b : Bool) → same_id (id x) i ≡ b → find (λ r. same_id (id r) i && q r) rows ≡ if_passes q (find (λ r. same_id (id r) i) rows)
+          → cond (b && q x) (Some x) (find (λ r. same_id (id r) i && q r) rows) ≡ if_passes q (cond b (Some x) (find (λ r. same_id (id r) i) rows))
       go true is ih = one is (q x)
       go false other ih = ih
 
@@ -155,7 +148,8 @@ module _ {R : Type 0} (id : R → Id) where
   put_keyed : (es : Entries) (x : R) → Keyed es → values_of (insert_entry id_cmp es (id x) x) ≡ put id_before id x (values_of es)
   put_keyed [] x k = refl
   put_keyed (e ∷ es) x k =
-      elim (id_cmp (id x) e.0) as (λ o. id_cmp (id x) e.0 ≡ o → values_of (match_ordering o (((id x), x) ∷ e ∷ es) ((e.0, x) ∷ es) (e ∷ insert_entry id_cmp es (id x) x)) ≡ put id_before id x (e.1 ∷ values_of es)) [
+      elim (id_cmp (id x) e.0) as (λ o. id_cmp (id x) e.0 ≡ o
+      → values_of (match_ordering o (((id x), x) ∷ e ∷ es) ((e.0, x) ∷ es) (e ∷ insert_entry id_cmp es (id x) x)) ≡ put id_before id x (e.1 ∷ values_of es)) [
         | Less ↦ λ p. sym (both (before_less (id x) (id e.1) (own ∙ p)) refl)
         | Equal ↦ λ p. sym (both (not_before (id x) (id e.1) (ap is_lt (own ∙ p))) (not_behind (id x) (id e.1) (own ∙ p)))
         | Greater ↦ λ p. ap (λ ys. e.1 ∷ ys) (put_keyed es x k.1) ∙ sym (both (not_before (id x) (id e.1) (ap is_lt (own ∙ p))) (behind_less (id x) (id e.1) (own ∙ p)))
@@ -164,7 +158,8 @@ module _ {R : Type 0} (id : R → Id) where
       own : id_cmp (id x) (id e.1) ≡ id_cmp (id x) e.0
       own = ap (id_cmp (id x)) (sym k.0)
 
-      both : {b c : Bool} → id_before (id x) (id e.1) ≡ b → id_before (id e.1) (id x) ≡ c → put id_before id x (e.1 ∷ values_of es) ≡ cond b (x ∷ e.1 ∷ values_of es) (cond c (e.1 ∷ put id_before id x (values_of es)) (x ∷ values_of es))
+      both : {b c : Bool} → id_before (id x) (id e.1) ≡ b → id_before (id e.1) (id x) ≡ c
+          → put id_before id x (e.1 ∷ values_of es) ≡ cond b (x ∷ e.1 ∷ values_of es) (cond c (e.1 ∷ put id_before id x (values_of es)) (x ∷ values_of es))
       both p q = λ t. cond (p t) (x ∷ e.1 ∷ values_of es) (cond (q t) (e.1 ∷ put id_before id x (values_of es)) (x ∷ values_of es))
 
   keys_put : (es : Entries) (x : R) → Keyed es → Keyed (insert_entry id_cmp es (id x) x)
@@ -193,7 +188,8 @@ module _ {R : Type 0} (id : R → Id) where
       ap (λ b. values_of (cond b es (e ∷ remove_entry (is_at (id_cmp i)) es))) (at_row i e k.0)
       ∙ go (same_id (id e.1) i) refl (taken_keyed es i k.1 s.1)
     where
-      go : (b : Bool) → same_id (id e.1) i ≡ b → values_of (remove_entry (is_at (id_cmp i)) es) ≡ rows_without id (i ∷ []) (values_of es) → values_of (cond b es (e ∷ remove_entry (is_at (id_cmp i)) es)) ≡ cond (not (b || false)) (e.1 ∷ rows_without id (i ∷ []) (values_of es)) (rows_without id (i ∷ []) (values_of es))
+      go : (b : Bool) → same_id (id e.1) i ≡ b → values_of (remove_entry (is_at (id_cmp i)) es) ≡ rows_without id (i ∷ []) (values_of es)
+          → values_of (cond b es (e ∷ remove_entry (is_at (id_cmp i)) es)) ≡ cond (not (b || false)) (e.1 ∷ rows_without id (i ∷ []) (values_of es)) (rows_without id (i ∷ []) (values_of es))
       go true is ih = sym (stay id i (values_of es) (apart id e.1 (values_of es) s i is))
       go false other ih = ap (λ ys. e.1 ∷ ys) ih
 
@@ -224,7 +220,8 @@ module _ {R : Type 0} (id : R → Id) where
 
   in_front : (front : List R) (x : R) (back : List R) → InOrder id_before id (front ++ x ∷ back) → (y : R) → Has y front → id_before (id y) (id x) ≡ true
   in_front [] x back s y h = absurd h
-  in_front (z ∷ front) x back s y (inl e) = subst (λ u. id_before (id u) (id x) ≡ true) (sym e) (all_has (λ u. id_before (id z) (id u) ≡ true) x (front ++ x ∷ back) s.0 (has_right x front (x ∷ back) (inl refl)))
+  in_front (z ∷ front) x back s y (inl e) =
+      subst (λ u. id_before (id u) (id x) ≡ true) (sym e) (all_has (λ u. id_before (id z) (id u) ≡ true) x (front ++ x ∷ back) s.0 (has_right x front (x ∷ back) (inl refl)))
   in_front (z ∷ front) x back s y (inr h) = in_front front x back s.1 y h
 
   pub put_next : (front : List R) (x : R) (back : List R) → InOrder id_before id (front ++ x ∷ back) → put id_before id x front ++ back ≡ front ++ x ∷ back
@@ -234,7 +231,9 @@ module _ {R : Type 0} (id : R → Id) where
   without_next gone i [] = refl
   without_next gone i (x ∷ rows) = go (same_id (id x) i) (without_next gone i rows)
     where
-      go : (a : Bool) → rows_without id gone (rows_without id (i ∷ []) rows) ≡ rows_without id (i ∷ gone) rows → filter (λ r. not (is_among (id r) gone)) (cond (not (a || false)) (x ∷ rows_without id (i ∷ []) rows) (rows_without id (i ∷ []) rows)) ≡ cond (not (a || is_among (id x) gone)) (x ∷ rows_without id (i ∷ gone) rows) (rows_without id (i ∷ gone) rows)
+      go : (a : Bool) → rows_without id gone (rows_without id (i ∷ []) rows) ≡ rows_without id (i ∷ gone) rows
+          → filter (λ r. not (is_among (id r) gone)) (cond (not (a || false)) (x ∷ rows_without id (i ∷ []) rows) (rows_without id (i ∷ []) rows))
+          ≡ cond (not (a || is_among (id x) gone)) (x ∷ rows_without id (i ∷ gone) rows) (rows_without id (i ∷ gone) rows)
       go true ih = ih
       go false ih = ap (λ ys. cond (not (is_among (id x) gone)) (x ∷ ys) ys) ih
 

@@ -64,7 +64,8 @@ permuted (x ∷ xs) ys s t f g =
     let once = subst AreApart is t in
     subst (IsPermutation (x ∷ xs)) (sym is)
     (IsPermutation-trans (x ∷ xs) (x ∷ (us ++ vs)) (us ++ x ∷ vs)
-    (IsPermutation-cons x xs (us ++ vs) (permuted xs (us ++ vs) s.1 (apart_around x us vs once) (λ z h. other x z xs us vs s.0 h (around_has z x us vs (subst (Has z) is (f z (inr h))))) (λ z h. left x z xs us vs once h (g z (subst (Has z) (sym is) (has_around z x us vs h))))))
+    (IsPermutation-cons x xs (us ++ vs) (permuted xs (us ++ vs) s.1 (apart_around x us vs once) (λ z h. other x z xs us vs s.0 h (around_has z x us vs (subst (Has z) is (f z (inr h)))))
+    (λ z h. left x z xs us vs once h (g z (subst (Has z) (sym is) (has_around z x us vs h))))))
     (IsPermutation-sym (us ++ x ∷ vs) (x ∷ (us ++ vs)) (IsPermutation-middle us x vs)))
 
 -- ---- rows that rise

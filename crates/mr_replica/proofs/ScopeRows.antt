@@ -6,7 +6,8 @@ use Rattle.std.specs.Str.{bytes_eq}
 use Rattle.mr_model.specs.Dropped.{Has}
 use Rattle.mr_model.specs.Exchange.{Item, W, C}
 use Rattle.mr_model.specs.Texts.{Text, within}
-use Rattle.mr_model.specs.Scopes.{Scope, Nothing, InRoom, OfTarget, NextCommits, UpTo, Above, OfItems, is_tentative, is_above, by_stamp, has_number, in_scope, is_in_tail, is_named, is_new_commit, item_id, rooms_of_item, with_rows}
+use Rattle.mr_model.specs.Scopes.{Scope, Nothing, InRoom, OfTarget, NextCommits, UpTo, Above, OfItems, is_tentative, is_above, by_stamp}
+use Rattle.mr_model.specs.Scopes.{has_number, in_scope, is_in_tail, is_named, is_new_commit, item_id, rooms_of_item, with_rows}
 use Rattle.mr_model.specs.Tables.{LogRow, BookingRow, ErrorRow, CancelledRow, Tables}
 use Rattle.mr_model.specs.Queries.{booking_id, error_id, cancelled_id, log_id}
 use Rattle.mr_model.specs.Replica.{is_among}
@@ -27,7 +28,9 @@ twice {R} p (x ∷ xs) = go (p x) refl (twice p xs)
 again : {R : Type 0} (p : R → Bool) (rows picked : List R) → picked ≡ filter p rows → filter p picked ≡ filter p rows
 again p rows picked is = ap (filter p) is ∙ twice p rows
 
-pub target_scope : (t : Tables) (target : Id) (booking : List BookingRow) (errorlog : List ErrorRow) (cancelled : List CancelledRow) → booking ≡ filter (λ r. same_id (booking_id r) target) t.booking → errorlog ≡ filter (λ r. same_id (error_id r) target) t.errorlog → cancelled ≡ filter (λ r. same_id (cancelled_id r) target) t.cancelled → in_scope (OfTarget target) (with_rows t [] booking errorlog cancelled) ≡ in_scope (OfTarget target) t
+pub target_scope : (t : Tables) (target : Id) (booking : List BookingRow) (errorlog : List ErrorRow) (cancelled : List CancelledRow)
+    → booking ≡ filter (λ r. same_id (booking_id r) target) t.booking → errorlog ≡ filter (λ r. same_id (error_id r) target) t.errorlog
+    → cancelled ≡ filter (λ r. same_id (cancelled_id r) target) t.cancelled → in_scope (OfTarget target) (with_rows t [] booking errorlog cancelled) ≡ in_scope (OfTarget target) t
 target_scope t target booking errorlog cancelled b e c =
     (λ i. with_rows t []
     (again (λ (x : BookingRow). same_id (booking_id x) target) t.booking booking b i)
@@ -63,16 +66,21 @@ named_id a x (y ∷ items) (inl e) same = or_left (same_id a (item_id y)) (is_am
 named_id a x (y ∷ items) (inr h) same = or_right (same_id a (item_id y)) (is_among a (map item_id items)) (named_id a x items h same)
 
 -- where a batch touches a room, it has a new commit or writes in the room
-touched_by : (known : ℕ) (log : List LogRow) (room : Text) (items : List Item) → list_any (bytes_eq room) (flat_map (rooms_of_item known log) items) ≡ true → (list_any (is_new_commit known) items || list_any (writes_in room) items) ≡ true
+touched_by : (known : ℕ) (log : List LogRow) (room : Text) (items : List Item) → list_any (bytes_eq room) (flat_map (rooms_of_item known log) items) ≡ true
+    → (list_any (is_new_commit known) items || list_any (writes_in room) items) ≡ true
 touched_by known log room [] h = h
 touched_by known log room (W w ∷ items) h = go (bytes_eq room w.room) h (touched_by known log room items)
   where
-    go : (b : Bool) → (b || list_any (bytes_eq room) (flat_map (rooms_of_item known log) items)) ≡ true → (list_any (bytes_eq room) (flat_map (rooms_of_item known log) items) ≡ true → (list_any (is_new_commit known) items || list_any (writes_in room) items) ≡ true) → (list_any (is_new_commit known) items || (b || list_any (writes_in room) items)) ≡ true
+    go : (b : Bool) → (b || list_any (bytes_eq room) (flat_map (rooms_of_item known log) items)) ≡ true
+        → (list_any (bytes_eq room) (flat_map (rooms_of_item known log) items) ≡ true → (list_any (is_new_commit known) items || list_any (writes_in room) items) ≡ true)
+        → (list_any (is_new_commit known) items || (b || list_any (writes_in room) items)) ≡ true
     go true h ih = or_right (list_any (is_new_commit known) items) true refl
     go false h ih = ih h
 touched_by known log room (C seq id ∷ items) h = go (nat_lt known seq) h (touched_by known log room items)
   where
-    go : (b : Bool) → list_any (bytes_eq room) (cond b (map (λ (row : LogRow). row.room) (filter (λ row. same_id (log_id row) id) log)) [] ++ flat_map (rooms_of_item known log) items) ≡ true → (list_any (bytes_eq room) (flat_map (rooms_of_item known log) items) ≡ true → (list_any (is_new_commit known) items || list_any (writes_in room) items) ≡ true) → ((b || list_any (is_new_commit known) items) || list_any (writes_in room) items) ≡ true
+    go : (b : Bool) → list_any (bytes_eq room) (cond b (map (λ (row : LogRow). row.room) (filter (λ row. same_id (log_id row) id) log)) [] ++ flat_map (rooms_of_item known log) items) ≡ true
+        → (list_any (bytes_eq room) (flat_map (rooms_of_item known log) items) ≡ true → (list_any (is_new_commit known) items || list_any (writes_in room) items) ≡ true)
+        → ((b || list_any (is_new_commit known) items) || list_any (writes_in room) items) ≡ true
     go true h ih = refl
     go false h ih = ih h
 
@@ -83,7 +91,8 @@ module _ (known : ℕ) (items : List Item) (log : List LogRow) where
   kept : (x : Item) → Has x items → filter (λ row. same_id (log_id row) (item_id x)) (filter needed log) ≡ filter (λ row. same_id (log_id row) (item_id x)) log
   kept x h =
       narrower (λ row. same_id (log_id row) (item_id x)) needed
-      (λ row same. or_right (is_late_row known items row) (is_named items row) (or_left (is_among (log_id row) (map item_id items)) (not (is_tentative row) && list_any (has_number row.seq) items) (named_id (log_id row) x items h same)))
+      (λ row same. or_right (is_late_row known items row) (is_named items row)
+      (or_left (is_among (log_id row) (map item_id items)) (not (is_tentative row) && list_any (has_number row.seq) items) (named_id (log_id row) x items h same)))
       log
 
   rooms_of : (left : List Item) → ((x : Item) → Has x left → Has x items) → flat_map (rooms_of_item known (filter needed log)) left ≡ flat_map (rooms_of_item known log) left
@@ -98,7 +107,8 @@ module _ (known : ℕ) (items : List Item) (log : List LogRow) where
   pub batch_rows : filter (in_batch (flat_map (rooms_of_item known (filter needed log)) items)) (filter needed log) ≡ filter (in_batch (flat_map (rooms_of_item known log) items)) log
   batch_rows =
       (λ i. filter (in_batch (rooms_of items (λ x h. h) i)) (filter needed log))
-      ∙ narrower (in_batch (flat_map (rooms_of_item known log) items)) needed (λ row h. up row (or_cases (is_named items row) (is_in_tail known items row && list_any (bytes_eq row.room) (flat_map (rooms_of_item known log) items)) h)) log
+      ∙ narrower (in_batch (flat_map (rooms_of_item known log) items)) needed
+      (λ row h. up row (or_cases (is_named items row) (is_in_tail known items row && list_any (bytes_eq row.room) (flat_map (rooms_of_item known log) items)) h)) log
     where
       up : (row : LogRow) → (is_named items row ≡ true) ⊎ ((is_in_tail known items row && list_any (bytes_eq row.room) (flat_map (rooms_of_item known log) items)) ≡ true) → needed row ≡ true
       up row (inl named) = or_right (is_late_row known items row) (is_named items row) named
@@ -107,7 +117,8 @@ module _ (known : ℕ) (items : List Item) (log : List LogRow) where
           or_left (is_late_row known items row) (is_named items row)
           (and_from (is_in_tail known items row) (list_any (is_new_commit known) items || list_any (writes_in row.room) items) behind (touched_by known log row.room items touched))
 
-pub rooms_scope : (s : Scope) (t : Tables) → is_of_rooms s ≡ true → without_bookings (in_scope s (with_rows t (filter (is_log_needed t.meta.commits s) t.log) [] [] [])) ≡ without_bookings (in_scope s t)
+pub rooms_scope : (s : Scope) (t : Tables) → is_of_rooms s ≡ true
+    → without_bookings (in_scope s (with_rows t (filter (is_log_needed t.meta.commits s) t.log) [] [] [])) ≡ without_bookings (in_scope s t)
 rooms_scope Nothing t is = refl
 rooms_scope (InRoom room) t is = refl
 rooms_scope (OfTarget target) t is = absurd (true≢false (sym is))

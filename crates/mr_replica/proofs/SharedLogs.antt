@@ -1,5 +1,6 @@
 -- A list that is that of the rows of the log is so when a row is put, and is that of a replica's kept writes.
-use Rattle.std.proofs.Common.{◌≡◌, refl, sym, ap, ◌∙◌, subst, IfSome, ℕ, zero, suc, ◌+◌, ◌-◌, ◌<◌, ◌≤◌, Bool, true, false, ◌||◌, List, [], ◌∷◌, ◌++◌, take, drop, length, map, ◌⊎◌, inl, inr, Option, Some, None, arith, add-one, slice_get, slice_index_or, slice_set}
+use Rattle.std.proofs.Common.{◌≡◌, refl, sym, ap, ◌∙◌, subst, IfSome, ℕ, zero, suc, ◌+◌, ◌-◌, ◌<◌, ◌≤◌, Bool, true, false, ◌||◌, List, [], ◌∷◌, ◌++◌}
+use Rattle.std.proofs.Common.{take, drop, length, map, ◌⊎◌, inl, inr, Option, Some, None, arith, add-one, slice_get, slice_index_or, slice_set}
 use Rattle.std.specs.declared.cmp.Ordering.{Ordering}
 use Rattle.std.specs.declared.cmp.Ordering.TheVariants.{Less, Equal, Greater}
 use Rattle.std.specs.List.{AllByRecursion}
@@ -28,7 +29,7 @@ use Rattle.mr_part.specs.KeptRows.{kept_row, run_place, run_cmp}
 use Rattle.mr_part.specs.Parts.{IsLogOf}
 use Rattle.mr_part.proofs.KeptOrder.{log_place, run_order, rows_rise}
 use Rattle.mr_part.proofs.Sorting.{has_moved, irreflexive, moved_has}
-use Rattle.mr_replica.specs.SharedLog.{run_before, AreInRunOrder, AreTold, IsSharedLog, IsTold}
+use Rattle.mr_replica.specs.SharedLog.{run_before, AreKeptInRunOrder, AreTold, IsSharedLog, IsTold}
 use Rattle.mr_replica.proofs.RowsById.{one_row}
 
 abbrev Before : KeptRow → KeptRow → Type 0
@@ -51,7 +52,7 @@ transitive : (p q r : RunPlace) → run_before p q ≡ true → run_before q r �
 transitive p q r e f = ap is_lt (run_order.trans p q r (less (run_cmp p q) e) (less (run_cmp q r) f))
 
 -- rows that each stand before the next one
-pub rise_run : (rows : List KeptRow) → Rise run_before run_place rows → AreInRunOrder rows
+pub rise_run : (rows : List KeptRow) → Rise run_before run_place rows → AreKeptInRunOrder rows
 rise_run [] rise = tt
 rise_run (x ∷ rows) rise =
     let later = rise_run rows
@@ -60,14 +61,15 @@ rise_run (x ∷ rows) rise =
     in
     (first rows (rise 0 x) later, later)
   where
-    first : (ys : List KeptRow) → (0 + 1 < length (x ∷ ys) → run_before (run_place x) (run_place (slice_index_or (x ∷ ys) 1 x)) ≡ true) → AreInRunOrder ys → AllByRecursion (Before x) ys
+    first : (ys : List KeptRow) → (0 + 1 < length (x ∷ ys) → run_before (run_place x) (run_place (slice_index_or (x ∷ ys) 1 x)) ≡ true) → AreKeptInRunOrder ys → AllByRecursion (Before x) ys
     first [] b s = tt
     first (y ∷ ys) b s =
         let l = b (omega arith) in
         (l, has_all (Before x) ys (λ z h. transitive (run_place x) (run_place y) (run_place z) l (all_has (Before y) z ys s.0 h)))
 
 -- what stands behind the last one stands behind all
-pub behind_last : (rows : List KeptRow) (last : KeptRow) (p : RunPlace) → AreInRunOrder rows → slice_get rows (length rows - 1) ≡ Some last → run_before (run_place last) p ≡ true → (y : KeptRow) → Has y rows → run_before (run_place y) p ≡ true
+pub behind_last : (rows : List KeptRow) (last : KeptRow) (p : RunPlace) → AreKeptInRunOrder rows → slice_get rows (length rows - 1) ≡ Some last
+    → run_before (run_place last) p ≡ true → (y : KeptRow) → Has y rows → run_before (run_place y) p ≡ true
 behind_last [] last p s e b y h = absurd h
 behind_last (x ∷ []) last p s e b y (inl same) = subst (λ z. run_before (run_place z) p ≡ true) (sym (same ∙ some_inj x last e)) b
 behind_last (x ∷ []) last p s e b y (inr h) = absurd h
@@ -85,7 +87,8 @@ behind_last (x ∷ z ∷ zs) last p s e b y h = go (behind_last (z ∷ zs) last 
     go ih (inr g) = ih y g
 
 -- and what stands before the first one before all
-pub before_first : (rows : List KeptRow) (first : KeptRow) (p : RunPlace) → AreInRunOrder rows → slice_get rows 0 ≡ Some first → run_before p (run_place first) ≡ true → (y : KeptRow) → Has y rows → run_before p (run_place y) ≡ true
+pub before_first : (rows : List KeptRow) (first : KeptRow) (p : RunPlace) → AreKeptInRunOrder rows → slice_get rows 0 ≡ Some first
+    → run_before p (run_place first) ≡ true → (y : KeptRow) → Has y rows → run_before p (run_place y) ≡ true
 before_first [] first p s e b y h = absurd h
 before_first (x ∷ xs) first p s e b y (inl same) = subst (λ z. run_before p (run_place z) ≡ true) (sym (same ∙ some_inj x first e)) b
 before_first (x ∷ xs) first p s e b y (inr h) =
@@ -163,7 +166,7 @@ told_place row x t = ap log_place t.told
 between : (log : List LogRow) (told : LogRow) (rows us vs : List KeptRow) (x : KeptRow) → InOrder id_before log_id log → IsSharedLog log rows → IsTold told x
     → ((y : KeptRow) → Has y (us ++ vs) → Has y rows × (id_of y.write ≡ log_id told → ⊥))
     → ((y : KeptRow) → Has y rows → (id_of y.write ≡ log_id told → ⊥) → Has y (us ++ vs))
-    → AreInRunOrder (us ++ x ∷ vs) → IsSharedLog (put id_before log_id told log) (us ++ x ∷ vs)
+    → AreKeptInRunOrder (us ++ x ∷ vs) → IsSharedLog (put id_before log_id told log) (us ++ x ∷ vs)
 between log told rows us vs x order is t others rest s = record { told = record { each = each; own = own }; order = s }
   where
     here : Has x (us ++ x ∷ vs)
@@ -316,7 +319,8 @@ new_one table so_far log was known new one h e = go (known one h)
 
 pub known_more : (table so_far : List LogRow) (log one : LogRow) (was is : Id → Bool) → ((i : Id) → is i ≡ (same_id (log_id log) i || was i))
     → ((row : LogRow) → Has row so_far → Has row table ⊎ (was (log_id row) ≡ true)) → (one ≡ log) ⊎ (Has one so_far × (log_id one ≡ log_id log → ⊥)) → Has one table ⊎ (is (log_id one) ≡ true)
-known_more table so_far log one was is more known (inl e) = inr (more (log_id one) ∙ or_left (same_id (log_id log) (log_id one)) (was (log_id one)) (same_id_from (log_id log) (log_id one) (ap log_id (sym e))))
+known_more table so_far log one was is more known (inl e) =
+    inr (more (log_id one) ∙ or_left (same_id (log_id log) (log_id one)) (was (log_id one)) (same_id_from (log_id log) (log_id one) (ap log_id (sym e))))
 known_more table so_far log one was is more known (inr p) = go (known one p.0)
   where
     go : Has one table ⊎ (was (log_id one) ≡ true) → Has one table ⊎ (is (log_id one) ≡ true)

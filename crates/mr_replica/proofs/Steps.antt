@@ -76,7 +76,8 @@ cancel_step room target name id a h = record {
     there : first_refusal faults ≡ None → IsReplica (add_write a w)
     there none =
         let f = none_apply faults none in
-        next_stays a w h (cancelled_is_next a room target h name id (below (clock_of a) greatest_time (clock_within a h) f.1.1.0) (below (count_of a a.server) greatest_count (count_within a a.server h) f.1.1.1.0))
+        next_stays a w h (cancelled_is_next a room target h name id (below (clock_of a) greatest_time (clock_within a h) f.1.1.0)
+        (below (count_of a a.server) greatest_count (count_within a a.server h) f.1.1.1.0))
 
 -- ---- a batch
 

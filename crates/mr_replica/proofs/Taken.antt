@@ -34,7 +34,8 @@ pub turned : {T : Type 0} (s : Scope) (f : Replica → After) (reply : Replica �
     → DeskTakesStep f reply old result new
 turned {T} s f reply change part old new answer (Ok x) steps from takes made same why = λ a h. by_cases a h (subst (TakesPart s f reply change part) made.0 takes a h.sound (from a h))
   where
-    by_cases : (a : Replica) → Stands old a → ((reply (f a).replica x ≡ (f a).reply) × (changed (change x) (tables_of a) ≡ tables_of (f a).replica)) ⊎ (◌≡◌ {A = Result T Refusal} (Ok x) (Err OutOfMemory))
+    by_cases : (a : Replica) → Stands old a
+        → ((reply (f a).replica x ≡ (f a).reply) × (changed (change x) (tables_of a) ≡ tables_of (f a).replica)) ⊎ (◌≡◌ {A = Result T Refusal} (Ok x) (Err OutOfMemory))
         → ((reply (f a).replica x ≡ (f a).reply) × Stands new (f a).replica) ⊎ ((◌≡◌ {A = Result T Refusal} (Ok x) (Err OutOfMemory)) × (new ≡ old))
     by_cases a h (inl e) = inl (e.0, record { sound = (steps a h.sound).keeps; are = made.1 ∙ ap (changed (change x)) h.are ∙ e.1 })
     by_cases a h (inr e) = absurd (ok_is_ok x OutOfMemory e)

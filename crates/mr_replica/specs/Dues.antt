@@ -19,5 +19,5 @@ IsExhausted t e =
     ((e ≡ ClockExhausted) × (greatest_time ≤ t.meta.clock)) ⊎ ((e ≡ CountExhausted) × (t.meta.clock < greatest_time) × (greatest_count ≤ own_count t))
 
 -- a booking of the room has this id, be it booked, logged or cancelled
-abbrev pub has_booking : Text → Id → Tables → Bool
-has_booking room id t = is_some (find_booking room id t) || is_some (find_error room id t) || is_some (find_cancelled room id t)
+abbrev pub has_booking_id : Text → Id → Tables → Bool
+has_booking_id room id t = is_some (find_booking room id t) || is_some (find_error room id t) || is_some (find_cancelled room id t)

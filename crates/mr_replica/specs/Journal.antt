@@ -18,7 +18,7 @@ is_going ids i = contains id_cmp ids i
 
 -- A step: a row was put, by which `before` became `now`. It has the row's id, and the row that stood in its place. Of
 -- all rows that were there the keys are known.
-pub record IsStep {R : Type 0} (id : R → Id) (knows : R → Type 0) (step : Id × Option R) (before now : List R) : Type 0 where
+pub record IsRowStep {R : Type 0} (id : R → Id) (knows : R → Type 0) (step : Id × Option R) (before now : List R) : Type 0 where
   pub row : R
   pub order : InOrder id_before id before
   pub put : now ≡ put id_before id row before
@@ -29,7 +29,7 @@ pub record IsStep {R : Type 0} (id : R → Id) (knows : R → Type 0) (step : Id
 -- the steps, the last one first, have led from `before` to `now`
 abbrev pub AreSteps : {R : Type 0} → (R → Id) → (R → Type 0) → List (Id × Option R) → List R → List R → Type 0
 AreSteps id knows [] before now = now ≡ before
-AreSteps {R} id knows (step ∷ older) before now = (mid : List R) × IsStep id knows step mid now × AreSteps id knows older before mid
+AreSteps {R} id knows (step ∷ older) before now = (mid : List R) × IsRowStep id knows step mid now × AreSteps id knows older before mid
 
 -- of nothing
 pub record IsFresh {R : Type 0} (journal : Journal R) : Type 0 where

@@ -24,12 +24,12 @@ use Rattle.mr_tables.specs.TableOrders.{InOrder}
 use Rattle.mr_replica.specs.declared.row_key.RowKey.{RowKey}
 use Rattle.mr_replica.specs.Keyed.{if_passes, IsKeyed}
 
-abbrev pub key_cmp : RowKey → RowKey → Ordering
-key_cmp = then_cmp (on (λ k. k.edge) nat_cmp) (then_cmp (on (λ k. k.room) (slice_cmp nat_cmp)) (then_cmp (on (λ k. k.room_edge) nat_cmp) (then_cmp (on (λ k. k.number) nat_cmp) (then_cmp (on (λ k. k.month) nat_cmp)
+abbrev pub row_key_cmp : RowKey → RowKey → Ordering
+row_key_cmp = then_cmp (on (λ k. k.edge) nat_cmp) (then_cmp (on (λ k. k.room) (slice_cmp nat_cmp)) (then_cmp (on (λ k. k.room_edge) nat_cmp) (then_cmp (on (λ k. k.number) nat_cmp) (then_cmp (on (λ k. k.month) nat_cmp)
     (then_cmp (on (λ k. k.day) nat_cmp) (then_cmp (on (λ k. k.day_edge) nat_cmp) (then_cmp (on (λ k. k.start) nat_cmp) (on (λ k. k.id) id_cmp))))))))
 
 abbrev pub key_before : RowKey → RowKey → Bool
-key_before a b = is_lt (key_cmp a b)
+key_before a b = is_lt (row_key_cmp a b)
 
 -- ---- keys
 
@@ -51,8 +51,8 @@ key_at edge room room_edge date day_edge start i =
 abbrev pub numbered : ℕ → Date
 numbered number = record { year = number; month = 0; day = 0 }
 
-abbrev pub stamped : ℕ → ℕ → Date
-stamped time server = record { year = time; month = server; day = 0 }
+abbrev pub stamp_date : ℕ → ℕ → Date
+stamp_date time server = record { year = time; month = server; day = 0 }
 
 -- the id in the ends of ranges
 abbrev pub no_id : Id
@@ -81,15 +81,15 @@ abbrev pub booking_key : BookingRow → RowKey
 booking_key row = key_at 1 row.room 1 row.day 1 row.start (booking_id row)
 
 -- in front of the rows of a room and day or of all days where the edge is 0, and behind them where it is 2
-abbrev pub end_key : ℕ → Text → Option Date → RowKey
-end_key edge room None = key_at 1 room edge (numbered 0) 1 0 no_id
-end_key edge room (Some day) = key_at 1 room 1 day edge 0 no_id
+abbrev pub row_end_key : ℕ → Text → Option Date → RowKey
+row_end_key edge room None = key_at 1 room edge (numbered 0) 1 0 no_id
+row_end_key edge room (Some day) = key_at 1 room 1 day edge 0 no_id
 
 -- committed rows of the log stand by their numbers, with no room in their keys, and behind them the tentative ones by room and stamp
 abbrev pub log_key : LogRow → RowKey
 log_key row =
     let late = is_tentative row in
-    key_at (if late then 3 else 1) (if late then row.room else []) 1 (if late then stamped row.time row.server else numbered row.seq) 1 0 (log_id row)
+    key_at (if late then 3 else 1) (if late then row.room else []) 1 (if late then stamp_date row.time row.server else numbered row.seq) 1 0 (log_id row)
 
 -- in front of all rows of the log, of the tentative ones, and behind all, where the edge is 0, 2, and 4
 abbrev pub log_end : ℕ → RowKey
@@ -97,11 +97,11 @@ log_end edge = key_at edge [] 1 (numbered 0) 1 0 no_id
 
 -- in front of the committed rows of this number where the edge is 0, and behind them where it is 2
 abbrev pub number_end : ℕ → ℕ → RowKey
-number_end edge number = end_key edge [] (Some (numbered number))
+number_end edge number = row_end_key edge [] (Some (numbered number))
 
 -- in front of the tentative rows of the room with this stamp where the edge is 0
 abbrev pub stamp_end : ℕ → Text → ℕ → ℕ → RowKey
-stamp_end edge room time server = key_at 3 room 1 (stamped time server) edge 0 no_id
+stamp_end edge room time server = key_at 3 room 1 (stamp_date time server) edge 0 no_id
 
 -- in front of the tentative rows of the room that are in the tail of a batch; behind all of them where none is
 abbrev pub tail_end : Text → Tail → RowKey
@@ -111,8 +111,8 @@ tail_end room Nothing = key_at 3 room 2 (numbered 0) 1 0 no_id
 
 -- ---- rows by their keys
 
-abbrev pub has : BTreeSet RowKey → RowKey → Bool
-has keys key = contains key_cmp keys key
+abbrev pub has_row_key : BTreeSet RowKey → RowKey → Bool
+has_row_key keys key = contains row_key_cmp keys key
 
 -- what a table is seen as
 pub record IndexView (R : Type 0) : Type 0 where
@@ -130,29 +130,29 @@ abbrev pub index_code : {R : Type 0} → Coded R → Coded (IndexView R)
 index_code {R} r = code_by (List R × List RowKey) (coded× (coded_list r) (coded_list key_code)) (λ v. (v.rows, v.keys.keys)) (λ p. record { rows = p.0; keys = record { keys = p.1 } }) (λ _. refl)
 
 -- the key of the row is among these
-abbrev pub IsNoted : {R : Type 0} → (R → RowKey) → BTreeSet RowKey → R → Type 0
-IsNoted key keys row = IsTrue (has keys (key row))
+abbrev pub IsRowNoted : {R : Type 0} → (R → RowKey) → BTreeSet RowKey → R → Type 0
+IsRowNoted key keys row = IsTrue (has_row_key keys (key row))
 
 -- the rows are in the order of their ids, and the key of each is among these
-pub record IsIndexed {R : Type 0} (id : R → Id) (key : R → RowKey) (rows : List R) (keys : BTreeSet RowKey) : Type 0 where
+pub record AreRowsIndexed {R : Type 0} (id : R → Id) (key : R → RowKey) (rows : List R) (keys : BTreeSet RowKey) : Type 0 where
   pub order : InOrder id_before id rows
-  pub noted : (row : R) → Has row rows → IsTrue (has keys (key row))
+  pub noted : (row : R) → Has row rows → IsTrue (has_row_key keys (key row))
 
 -- the rows stand under their ids, and the key of each is among these
 pub record IsTable {R : Type 0} (id : R → Id) (key : R → RowKey) (entries : List (Id × R)) (keys : BTreeSet RowKey) : Type 0 where
   pub keyed : IsKeyed id entries
-  pub index : IsIndexed id key (values_of entries) keys
+  pub index : AreRowsIndexed id key (values_of entries) keys
 
 -- these are the rows that pass, each at least once
 abbrev pub AreThose : {R : Type 0} → (R → Bool) → List R → List R → Type 0
 AreThose {R} q all rows = ((row : R) → Has row rows → Has row all × (q row ≡ true)) × ((row : R) → Has row all → q row ≡ true → Has row rows)
 
 -- the row of this key
-abbrev pub row_at : {R : Type 0} → (R → Id) → (R → RowKey) → List R → RowKey → Option R
-row_at id key rows k = if_passes (λ r. is_eq (key_cmp (key r) k)) (find (λ r. same_id (id r) k.id) rows)
+abbrev pub row_of_key : {R : Type 0} → (R → Id) → (R → RowKey) → List R → RowKey → Option R
+row_of_key id key rows k = if_passes (λ r. is_eq (row_key_cmp (key r) k)) (find (λ r. same_id (id r) k.id) rows)
 
 abbrev pub is_between : RowKey → RowKey → RowKey → Bool
-is_between first last = range_contains key_cmp (Included first) (Included last)
+is_between first last = range_contains row_key_cmp (Included first) (Included last)
 
 -- these are the rows whose keys are between the two, in the order of their keys
 pub record AreBetween {R : Type 0} (key : R → RowKey) (first last : RowKey) (all rows : List R) : Type 0 where

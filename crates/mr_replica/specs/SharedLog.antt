@@ -20,8 +20,8 @@ pub record IsTold (row : LogRow) (x : KeptRow) : Type 0 where
 abbrev pub run_before : RunPlace → RunPlace → Bool
 run_before a b = is_lt (run_cmp a b)
 
-abbrev pub AreInRunOrder : List KeptRow → Type 0
-AreInRunOrder rows = InOrder run_before run_place rows
+abbrev pub AreKeptInRunOrder : List KeptRow → Type 0
+AreKeptInRunOrder rows = InOrder run_before run_place rows
 
 -- each row of the log is told by one of these, and each of them tells a row of the log
 pub record AreTold (log : List LogRow) (rows : List KeptRow) : Type 0 where
@@ -31,4 +31,4 @@ pub record AreTold (log : List LogRow) (rows : List KeptRow) : Type 0 where
 -- and they stand in the order of execution
 pub record IsSharedLog (log : List LogRow) (rows : List KeptRow) : Type 0 where
   pub told : AreTold log rows
-  pub order : AreInRunOrder rows
+  pub order : AreKeptInRunOrder rows

@@ -7,16 +7,16 @@ use Rattle.mr_tables.specs.Change.{ChangeView, id_before, put_all, rows_without}
 use Rattle.mr_replica.specs.declared.writes.Journals.{Journals}
 use Rattle.mr_replica.specs.declared.writes.Writes.{Writes}
 use Rattle.mr_replica.specs.Journal.{is_going, rows_but, AreSteps, IsFresh}
-use Rattle.mr_replica.specs.RowKeys.{booking_key, log_key, room_key, IsNoted}
+use Rattle.mr_replica.specs.RowKeys.{booking_key, log_key, room_key, IsRowNoted}
 
-pub record Rows : Type 0 where
+pub record WrittenRows : Type 0 where
   pub log : List LogRow
   pub booking : List BookingRow
   pub errorlog : List ErrorRow
   pub cancelled : List CancelledRow
   pub cancels : List CancelRow
 
-abbrev pub rows_of : Writes → Rows
+abbrev pub rows_of : Writes → WrittenRows
 rows_of w = record { log = w.log.rows; booking = w.booking.rows; errorlog = w.errorlog.rows; cancelled = w.cancelled.rows; cancels = w.cancels.rows }
 
 -- with the short ones
@@ -36,7 +36,7 @@ tables_with meta room vector w =
 abbrev pub AreNone : Writes → Type 0
 AreNone w = rows_of w ≡ record { log = []; booking = []; errorlog = []; cancelled = []; cancels = [] }
 
-abbrev pub changed_rows : ChangeView → Rows → Rows
+abbrev pub changed_rows : ChangeView → WrittenRows → WrittenRows
 changed_rows c rows =
     record {
       log = put_all id_before log_id c.log (rows_without log_id c.dropped rows.log);
@@ -47,7 +47,7 @@ changed_rows c rows =
     }
 
 -- without the rows that are still to go
-abbrev pub rows_settled : Journals → Rows → Rows
+abbrev pub rows_settled : Journals → WrittenRows → WrittenRows
 rows_settled journals rows =
     record {
       log = rows_but log_id (is_going journals.log.going) rows.log;
@@ -66,8 +66,8 @@ pub record AreAllFresh (journals : Journals) : Type 0 where
 
 -- each journal has led from the rows before to those now
 pub record AreAllSteps (journals : Journals) (before now : Writes) : Type 0 where
-  pub log : AreSteps log_id (IsNoted log_key now.log.keys) (reverse journals.log.puts.items) before.log.rows now.log.rows
-  pub booking : AreSteps booking_id (IsNoted booking_key now.booking.keys) (reverse journals.booking.puts.items) before.booking.rows now.booking.rows
-  pub errorlog : AreSteps error_id (IsNoted (λ row. room_key row.room (error_id row)) now.errorlog.keys) (reverse journals.errorlog.puts.items) before.errorlog.rows now.errorlog.rows
-  pub cancelled : AreSteps cancelled_id (IsNoted (λ row. room_key row.room (cancelled_id row)) now.cancelled.keys) (reverse journals.cancelled.puts.items) before.cancelled.rows now.cancelled.rows
-  pub cancels : AreSteps cancel_id (IsNoted (λ row. room_key row.room (cancel_id row)) now.cancels.keys) (reverse journals.cancels.puts.items) before.cancels.rows now.cancels.rows
+  pub log : AreSteps log_id (IsRowNoted log_key now.log.keys) (reverse journals.log.puts.items) before.log.rows now.log.rows
+  pub booking : AreSteps booking_id (IsRowNoted booking_key now.booking.keys) (reverse journals.booking.puts.items) before.booking.rows now.booking.rows
+  pub errorlog : AreSteps error_id (IsRowNoted (λ row. room_key row.room (error_id row)) now.errorlog.keys) (reverse journals.errorlog.puts.items) before.errorlog.rows now.errorlog.rows
+  pub cancelled : AreSteps cancelled_id (IsRowNoted (λ row. room_key row.room (cancelled_id row)) now.cancelled.keys) (reverse journals.cancelled.puts.items) before.cancelled.rows now.cancelled.rows
+  pub cancels : AreSteps cancel_id (IsRowNoted (λ row. room_key row.room (cancel_id row)) now.cancels.keys) (reverse journals.cancels.puts.items) before.cancels.rows now.cancels.rows

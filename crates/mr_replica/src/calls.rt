@@ -8,7 +8,7 @@ ghost use Rattle.mr_model.specs.Step.{leave, add_room, commit, truncate, receive
 ghost use Rattle.mr_part.specs.Answering.{NeverStore, put_outcome, put_cancel_outcome};
 ghost use Rattle.mr_part.specs.Steps.{submit_request, outcome_in, cancel_request, outcome_at_room};
 ghost use Rattle.mr_replica.specs.Desk.{DeskTakesStep, StandsFor};
-ghost use Rattle.mr_replica.specs.Dues.{has_booking, own_count};
+ghost use Rattle.mr_replica.specs.Dues.{has_booking_id, own_count};
 ghost use Rattle.mr_tables.specs.Change.{changed};
 
 use crate::Desk;
@@ -78,10 +78,10 @@ impl Desk {
         ensures err { OnErr result (self.new ≡ self.old) }
         // A refusal that is due is returned without memory.
         ensures due_room { list_any (bytes_eq room) self.old.room ≡ false → result ≡ Err Refusal.UnknownRoom }
-        ensures due_target { list_any (bytes_eq room) self.old.room ≡ true → has_booking room target self.old ≡ false → result ≡ Err Refusal.NoSuchRequest }
-        ensures due_clock { list_any (bytes_eq room) self.old.room ≡ true → has_booking room target self.old ≡ true → 999_999_999_999 ≤ self.old.meta.clock
+        ensures due_target { list_any (bytes_eq room) self.old.room ≡ true → has_booking_id room target self.old ≡ false → result ≡ Err Refusal.NoSuchRequest }
+        ensures due_clock { list_any (bytes_eq room) self.old.room ≡ true → has_booking_id room target self.old ≡ true → 999_999_999_999 ≤ self.old.meta.clock
             → result ≡ Err Refusal.ClockExhausted }
-        ensures due_count { list_any (bytes_eq room) self.old.room ≡ true → has_booking room target self.old ≡ true → self.old.meta.clock < 999_999_999_999
+        ensures due_count { list_any (bytes_eq room) self.old.room ≡ true → has_booking_id room target self.old ≡ true → self.old.meta.clock < 999_999_999_999
             → 999_999_999 ≤ own_count self.old → result ≡ Err Refusal.CountExhausted }
         ensures own { (a : Replica) → StandsFor self.old a → NeverStore result }
     {

@@ -17,7 +17,7 @@ ghost use Rattle.mr_replica.specs.declared.row_key.RowKey.{RowKey as Key};
 ghost use Rattle.mr_replica.specs.Calendar.{AreListed};
 ghost use Rattle.mr_replica.specs.Needed.{is_late_in, is_late_row, is_log_needed};
 ghost use Rattle.mr_replica.specs.Picked.{is_day_asked};
-ghost use Rattle.mr_replica.specs.RowKeys.{has, index_code, is_between, key_cmp, room_key, row_at, AreBetween, AreThose, IndexView, IsIndexed, IsTable};
+ghost use Rattle.mr_replica.specs.RowKeys.{has_row_key, index_code, is_between, row_key_cmp, room_key, row_of_key, AreBetween, AreThose, IndexView, AreRowsIndexed, IsTable};
 
 use crate::row_key::{KeyedRow, RowKey, end_key, log_end, number_end, tail_end};
 use mr_base::{Day, Item, RoomName, WriteId};
@@ -116,9 +116,9 @@ impl<R: KeyedRow> Indexed<R> {
         ensures put { OnOk result (self.new.rows ≡ put id_before R.id row self.old.rows) }
         ensures old { IfOk result (λ old. old ≡ find (λ r. same_id (R.id r) (R.id row)) self.old.rows) }
         ensures kept { OnErr result (self.new.rows ≡ self.old.rows) }
-        ensures absent { IsTrue (has self.old.keys (R.second_key row)) → OnErr result (find (λ r. same_id (R.id r) (R.id row)) self.old.rows ≡ None) }
-        ensures keys { (k : Key) → IsTrue (has self.old.keys k) → IsTrue (has self.new.keys k) }
-        ensures index { IsIndexed R.id R.second_key self.old.rows self.old.keys }
+        ensures absent { IsTrue (has_row_key self.old.keys (R.second_key row)) → OnErr result (find (λ r. same_id (R.id r) (R.id row)) self.old.rows ≡ None) }
+        ensures keys { (k : Key) → IsTrue (has_row_key self.old.keys k) → IsTrue (has_row_key self.new.keys k) }
+        ensures index { AreRowsIndexed R.id R.second_key self.old.rows self.old.keys }
     {
         self.keys.insert(row.second_key())?;
         Ok(self.rows.insert(row.write_id(), row)?)
@@ -190,7 +190,7 @@ impl<R: KeyedRow> Indexed<R> {
 
     /// Copies of the rows with keys from the first to the last, in the order of the keys.
     fn between(&self, first: &RowKey, last: &RowKey) -> Result<Vec<R>, AllocError>
-        requires { is_gt (key_cmp first.now last.now) ≡ false }
+        requires { is_gt (row_key_cmp first.now last.now) ≡ false }
         ensures found { IfOk result (λ rows. AreBetween R.second_key first.now last.now self.now.rows rows.items) }
         ensures order { InOrder id_before R.id self.now.rows }
     {
@@ -206,7 +206,7 @@ impl<R: KeyedRow> Indexed<R> {
     /// Copies of the rows with keys from the first to the last, in the order of their ids. If at most so many others are there, and these
     /// are no more than half of all rows, each row is looked at, since they lie in that order; else those between the two are sorted.
     fn ranged(&self, first: &RowKey, last: &RowKey, others: u64) -> Result<Vec<R>, AllocError>
-        requires { is_gt (key_cmp first.now last.now) ≡ false }
+        requires { is_gt (row_key_cmp first.now last.now) ≡ false }
         ensures { IfOk result (λ rows. rows.items ≡ filter (λ r. is_between first.now last.now (R.second_key r)) self.now.rows) }
     {
         if others <= self.rows.len() as u64 / 2 {
@@ -232,7 +232,7 @@ impl<R: KeyedRow> Indexed<R> {
 
     /// The row with this key.
     fn row_at(&self, key: &RowKey) -> Option<&R>
-        ensures { option_copied result ≡ row_at R.id R.second_key self.now.rows key.now }
+        ensures { option_copied result ≡ row_of_key R.id R.second_key self.now.rows key.now }
     {
         match self.get(key.id) {
             Some(row) if row.second_key().cmp(key).is_eq() => Some(row),

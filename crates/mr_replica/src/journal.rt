@@ -3,8 +3,8 @@ ghost use Rattle.mr_model.specs.Replica.{is_among};
 ghost use Rattle.mr_model.specs.Writes.{Id};
 ghost use Rattle.mr_tables.specs.Change.{id_before, put, put_all, rows_without};
 ghost use Rattle.mr_replica.specs.declared.row_key.RowKey.{RowKey as Key};
-ghost use Rattle.mr_replica.specs.Journal.{is_going, rows_but, AreSteps, IsFresh, IsStep};
-ghost use Rattle.mr_replica.specs.RowKeys.{has, IsNoted};
+ghost use Rattle.mr_replica.specs.Journal.{is_going, rows_but, AreSteps, IsFresh, IsRowStep};
+ghost use Rattle.mr_replica.specs.RowKeys.{has_row_key, IsRowNoted};
 
 use crate::indexed::Indexed;
 use crate::row_key::KeyedRow;
@@ -42,7 +42,7 @@ impl<R: KeyedRow> Journal<R> {
         news: &[R],
     ) -> Result<(), AllocError>
         requires { IsFresh self.old }
-        ensures steps { AreSteps R.id (IsNoted R.second_key table.new.keys) (reverse self.new.puts.items) table.old.rows table.new.rows }
+        ensures steps { AreSteps R.id (IsRowNoted R.second_key table.new.keys) (reverse self.new.puts.items) table.old.rows table.new.rows }
         ensures made { OnOk result (rows_but R.id (is_going self.new.going) table.new.rows ≡ put_all id_before R.id news.now (rows_without R.id gone.now table.old.rows)) }
     {
         self.going.extend(gone)?;
@@ -58,8 +58,8 @@ fn put_one<R: KeyedRow>(
     row: R,
     journal: &mut Journal<R>,
 ) -> Result<(), AllocError>
-    ensures steps { (before : List R) → AreSteps R.id (IsNoted R.second_key table.old.keys) (reverse journal.old.puts.items) before table.old.rows
-        → AreSteps R.id (IsNoted R.second_key table.new.keys) (reverse journal.new.puts.items) before table.new.rows }
+    ensures steps { (before : List R) → AreSteps R.id (IsRowNoted R.second_key table.old.keys) (reverse journal.old.puts.items) before table.old.rows
+        → AreSteps R.id (IsRowNoted R.second_key table.new.keys) (reverse journal.new.puts.items) before table.new.rows }
     ensures made { OnOk result (rows_but R.id (is_going journal.new.going) table.new.rows ≡ put id_before R.id row (rows_but R.id (is_going journal.old.going) table.old.rows)) }
 {
     let id = row.write_id();
@@ -72,7 +72,7 @@ fn put_one<R: KeyedRow>(
 
 /// Gives the table the rows that it had before the puts in the journal, and drops the keys that the new rows left.
 pub(crate) fn take_back<R: KeyedRow>(table: &mut Indexed<R>, journal: Journal<R>, news: &[R])
-    ensures { (before : List R) → AreSteps R.id (IsNoted R.second_key table.old.keys) (reverse journal.puts.items) before table.old.rows → table.new.rows ≡ before }
+    ensures { (before : List R) → AreSteps R.id (IsRowNoted R.second_key table.old.keys) (reverse journal.puts.items) before table.old.rows → table.new.rows ≡ before }
 {
     go_back(table, journal.puts);
     for row in news {
@@ -81,7 +81,7 @@ pub(crate) fn take_back<R: KeyedRow>(table: &mut Indexed<R>, journal: Journal<R>
 }
 
 fn go_back<R: KeyedRow>(table: &mut Indexed<R>, puts: Vec<(WriteId, Option<R>)>)
-    ensures { (before : List R) → AreSteps R.id (IsNoted R.second_key table.old.keys) (reverse puts.items) before table.old.rows → table.new.rows ≡ before }
+    ensures { (before : List R) → AreSteps R.id (IsRowNoted R.second_key table.old.keys) (reverse puts.items) before table.old.rows → table.new.rows ≡ before }
 {
     let mut left = puts;
     while let Some((id, old)) = left.pop() {
@@ -90,8 +90,8 @@ fn go_back<R: KeyedRow>(table: &mut Indexed<R>, puts: Vec<(WriteId, Option<R>)>)
 }
 
 fn step_back<R: KeyedRow>(table: &mut Indexed<R>, id: WriteId, old: Option<R>)
-    ensures rows { (before : List R) → IsStep R.id (IsNoted R.second_key table.old.keys) (id, old) before table.old.rows → table.new.rows ≡ before }
-    ensures keys { (k : Key) → IsTrue (has table.old.keys k) → IsTrue (has table.new.keys k) }
+    ensures rows { (before : List R) → IsRowStep R.id (IsRowNoted R.second_key table.old.keys) (id, old) before table.old.rows → table.new.rows ≡ before }
+    ensures keys { (k : Key) → IsTrue (has_row_key table.old.keys k) → IsTrue (has_row_key table.new.keys k) }
 {
     match old {
         Some(row) => {

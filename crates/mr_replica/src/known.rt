@@ -1,7 +1,7 @@
 ghost use Rattle.std.specs.Prelude.{◌≡◌, ◌<◌, ◌≤◌, bytes_eq, Some, IfSome};
 ghost use Rattle.std.specs.List.{list_any};
 ghost use Rattle.mr_agree.specs.Agreeing.{vector_in};
-ghost use Rattle.mr_replica.specs.Dues.{has_booking, own_count, IsExhausted};
+ghost use Rattle.mr_replica.specs.Dues.{has_booking_id, own_count, IsExhausted};
 
 use crate::Memory;
 use mr_base::{GREATEST_COUNT, GREATEST_TIME, Refusal, RoomName, ServerId, WriteId};
@@ -41,7 +41,7 @@ impl Memory {
 
     /// Whether a booking of the room has this id, be it booked, logged or cancelled.
     pub(crate) fn has_booking(&self, room: &RoomName, id: WriteId) -> bool
-        ensures { result ≡ has_booking room.now id self.now }
+        ensures { result ≡ has_booking_id room.now id self.now }
     {
         let writes = &self.writes;
         writes.booking.get_in(id, room).is_some()

@@ -16,7 +16,7 @@ ghost use Rattle.mr_replica.specs.Ordered.{AreInOrder, IsDueOver};
 ghost use Rattle.mr_replica.specs.Needed.{is_log_needed};
 ghost use Rattle.mr_replica.specs.Picked.{IsPlaceOf};
 ghost use Rattle.mr_replica.specs.SharedLog.{IsSharedLog};
-ghost use Rattle.mr_replica.specs.Taken.{is_taken};
+ghost use Rattle.mr_replica.specs.Taken.{is_id_taken};
 ghost use Rattle.mr_replica.specs.Writes.{tables_with};
 
 use crate::indexed::Indexed;
@@ -219,7 +219,7 @@ impl Memory {
     pub fn load_part(&self, scope: &Scope<'_>) -> Result<Part, Refusal>
         ensures loaded { (a : Replica) → Stands self.now a → IfOk result (λ part. IsPartOf part (scope_of scope.now) a) }
         ensures only { (a : Replica) → Stands self.now a → IfErr result (λ e. e ≡ Refusal.OutOfMemory) }
-        ensures free { IfOk result (λ part. is_taken (id_given (scope_of scope.now) part.summary) self.now ≡ false) }
+        ensures free { IfOk result (λ part. is_id_taken (id_given (scope_of scope.now) part.summary) self.now ≡ false) }
         ensures within { IfOk result (λ part. IsWithin part.summary) }
     {
         let part = self.part_for(scope)?;
@@ -326,7 +326,7 @@ impl Memory {
 
     /// Whether a row has the id that a command would give, if it gives one.
     fn is_taken(&self, id: Option<WriteId>) -> bool
-        ensures { result ≡ is_taken id self.now }
+        ensures { result ≡ is_id_taken id self.now }
     {
         match id {
             Some(id) => self.writes.log.has(id) || self.has_place_of(id),

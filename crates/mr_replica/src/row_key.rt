@@ -2,7 +2,7 @@ ghost use Rattle.std.specs.Prelude.{◌≡◌, refl};
 ghost use Rattle.mr_model.specs.Queries.{error_id, cancelled_id, cancel_id};
 ghost use Rattle.mr_model.specs.Writes.{Id};
 ghost use Rattle.mr_replica.specs.declared.row_key.RowKey.{RowKey as Key};
-ghost use Rattle.mr_replica.specs.RowKeys.{blank, booking_key, end_key, is_between, log_end, log_key, number_end, room_key, stamp_end, tail_end};
+ghost use Rattle.mr_replica.specs.RowKeys.{blank, booking_key, row_end_key, is_between, log_end, log_key, number_end, room_key, stamp_end, tail_end};
 
 use mr_base::{Day, RoomName, ServerId, WriteId};
 use mr_part::tail::Tail;
@@ -125,7 +125,7 @@ fn room_key(room: &RoomName, id: WriteId) -> RowKey
 
 /// The key in front of the room's rows of a day, or of all days, if the edge is 0, and the one behind them if it is 2.
 pub(crate) fn end_key(edge: u8, room: &RoomName, day: &Option<Day>) -> RowKey
-    ensures { result ≡ end_key edge room.now day.now }
+    ensures { result ≡ row_end_key edge room.now day.now }
 {
     let all = blank(padded(room));
     match day {

@@ -8,7 +8,7 @@ ghost use Rattle.mr_part.specs.declared.kept_rows.KeptRow.{KeptRow as KeptRowOfW
 ghost use Rattle.mr_part.specs.Sets.{has_id};
 ghost use Rattle.mr_tables.specs.Change.{id_before, put, put_all, rows_without};
 ghost use Rattle.mr_tables.specs.TableOrders.{InOrder};
-ghost use Rattle.mr_replica.specs.SharedLog.{run_before, AreInRunOrder, AreTold, IsSharedLog, IsTold};
+ghost use Rattle.mr_replica.specs.SharedLog.{run_before, AreKeptInRunOrder, AreTold, IsSharedLog, IsTold};
 
 use crate::indexed::Indexed;
 use mr_base::{Refusal, WriteId};
@@ -109,7 +109,7 @@ fn told_rows(alloc: Global, logs: &[LogRow]) -> Result<Vec<KeptRow>, Refusal>
 
 /// Whether each row stands before the next one in the order of execution.
 fn are_in_run_order(rows: &[KeptRow]) -> bool
-    ensures { result ≡ true → AreInRunOrder rows.now }
+    ensures { result ≡ true → AreKeptInRunOrder rows.now }
 {
     rows.is_sorted_by(|row, next| runs_before(row, next))
 }
@@ -135,7 +135,7 @@ fn place_of(row: &KeptRow) -> RunPlace
 
 /// Whether the row stands behind all of these.
 fn is_behind(rows: &[KeptRow], row: &KeptRow) -> bool
-    ensures { AreInRunOrder rows.now → result ≡ true → (x : KeptRowOfWrite) → Has x rows.now → run_before (run_place x) (run_place row.now) ≡ true }
+    ensures { AreKeptInRunOrder rows.now → result ≡ true → (x : KeptRowOfWrite) → Has x rows.now → run_before (run_place x) (run_place row.now) ≡ true }
 {
     match rows.last() {
         Some(last) => runs_before(last, row),
@@ -145,7 +145,7 @@ fn is_behind(rows: &[KeptRow], row: &KeptRow) -> bool
 
 /// Whether the row stands before all of these.
 fn is_in_front(rows: &[KeptRow], row: &KeptRow) -> bool
-    ensures { AreInRunOrder rows.now → result ≡ true → (x : KeptRowOfWrite) → Has x rows.now → run_before (run_place row.now) (run_place x) ≡ true }
+    ensures { AreKeptInRunOrder rows.now → result ≡ true → (x : KeptRowOfWrite) → Has x rows.now → run_before (run_place row.now) (run_place x) ≡ true }
 {
     match rows.first() {
         Some(first) => runs_before(row, first),

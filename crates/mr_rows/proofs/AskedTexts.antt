@@ -44,7 +44,8 @@ module _ {R K : Type 0} (f : Form R K) (text : List ℕ) (params : Row) (chosen 
   project = columns_at 1 (length f.table.columns)
 
   -- of rows that are the table's own
-  moved_own : (stored rows : List Row) → IsPermutation (map (λ r. eval_all project (params ∷ r ∷ [])) (filter (passes asks.tests params) stored)) rows → AllByRecursion (IsStoredAs f) stored → AllByRecursion (IsShownAs f) rows
+  moved_own : (stored rows : List Row) → IsPermutation (map (λ r. eval_all project (params ∷ r ∷ [])) (filter (passes asks.tests params) stored)) rows
+      → AllByRecursion (IsStoredAs f) stored → AllByRecursion (IsShownAs f) rows
   moved_own stored rows same all =
       let show = λ (r : Row). eval_all project (params ∷ r ∷ []) in
       let found = filter (passes asks.tests params) stored in
@@ -54,7 +55,8 @@ module _ {R K : Type 0} (f : Form R K) (text : List ℕ) (params : Row) (chosen 
   shows_own : (old new : State) (rows : List Row) → old.now.schema ≡ our_schema → AreStoredAs f old.now.trees → Shown text params old new rows → All (IsShownAs f) rows
   shows_own old new rows schema stored shown =
       let answer = reads_as text params old new our_schema schema (Select (program_of f.table.tree asks.tests project) asks.names) asks.means asks.plain asks.sure.0 rows shown in
-      All-from_recursion (IsShownAs f) rows (moved_own (old.now.trees f.table.tree) rows (shows f.table.tree asks.tests project old.now.trees params rows (asks.alone old.now.trees) (answer.answer Null)) stored)
+      All-from_recursion (IsShownAs f) rows
+      (moved_own (old.now.trees f.table.tree) rows (shows f.table.tree asks.tests project old.now.trees params rows (asks.alone old.now.trees) (answer.answer Null)) stored)
 
   pub shows_chosen : (old new : State) (rows : List Row) → old.now.schema ≡ our_schema → Shown text params old new rows → AreChosen f chosen old.now.trees rows
   shows_chosen old new rows schema shown = (
@@ -64,9 +66,12 @@ module _ {R K : Type 0} (f : Form R K) (text : List ℕ) (params : Row) (chosen 
 
 -- ---- texts
 
-asks_for : {R K : Type 0} (f : Form R K) (facts : Facts our_schema f) (text : List ℕ) (tests : List Term) (params : Row) (chosen : R → Bool) → MeansQuery text (asks f.table tests) → ((r : Row) → IsRowOf f r → passes tests params r ≡ chosen (f.row_in r))
-    → ((r : Row) → IsRowOf f r → f.row_in (Null ∷ eval_all (columns_at 1 (length f.table.columns)) (params ∷ r ∷ [])) ≡ f.row_in r) → ((r : Row) → IsStoredAs f r → IsShownAs f (eval_all (columns_at 1 (length f.table.columns)) (params ∷ r ∷ [])))
-    → is_whole text (length params) (understood our_schema text) ≡ true → accepts_program our_schema [] (query_of f.table.tree tests (columns_at 1 (length f.table.columns))) params ≡ true → AsksFor f text params chosen
+asks_for : {R K : Type 0} (f : Form R K) (facts : Facts our_schema f) (text : List ℕ) (tests : List Term) (params : Row) (chosen : R → Bool)
+    → MeansQuery text (asks f.table tests) → ((r : Row) → IsRowOf f r → passes tests params r ≡ chosen (f.row_in r))
+    → ((r : Row) → IsRowOf f r → f.row_in (Null ∷ eval_all (columns_at 1 (length f.table.columns)) (params ∷ r ∷ [])) ≡ f.row_in r)
+    → ((r : Row) → IsStoredAs f r → IsShownAs f (eval_all (columns_at 1 (length f.table.columns)) (params ∷ r ∷ [])))
+    → is_whole text (length params) (understood our_schema text) ≡ true
+    → accepts_program our_schema [] (query_of f.table.tree tests (columns_at 1 (length f.table.columns))) params ≡ true → AsksFor f text params chosen
 asks_for f facts text tests params chosen means picks same own whole accepts = record {
   tests = tests;
   names = names_of f.table;
@@ -81,19 +86,24 @@ asks_for f facts text tests params chosen means picks same own whole accepts = r
 }
 
 -- for the rows of a room, whose name is in this column
-pub room_asks : {R K : Type 0} {f : Form R K} (facts : Facts our_schema f) (text : List ℕ) (at : ℕ) (room_of : R → texts.Text) → MeansQuery text (asks f.table (one_test at)) → ((x : R) (v : Value) → column (v ∷ f.cells x) at ≡ Text (room_of x))
+pub room_asks : {R K : Type 0} {f : Form R K} (facts : Facts our_schema f) (text : List ℕ) (at : ℕ) (room_of : R → texts.Text)
+    → MeansQuery text (asks f.table (one_test at)) → ((x : R) (v : Value) → column (v ∷ f.cells x) at ≡ Text (room_of x))
     → ((room : texts.Text) (r : Row) → IsRowOf f r → f.row_in (Null ∷ eval_all (columns_at 1 (length f.table.columns)) ((Text room ∷ []) ∷ r ∷ [])) ≡ f.row_in r)
-    → ((room : texts.Text) (r : Row) → IsStoredAs f r → IsShownAs f (eval_all (columns_at 1 (length f.table.columns)) ((Text room ∷ []) ∷ r ∷ []))) → is_whole text 1 (understood our_schema text) ≡ true
-    → ((room : texts.Text) → accepts_program our_schema [] (query_of f.table.tree (one_test at) (columns_at 1 (length f.table.columns))) (Text room ∷ []) ≡ true) → (room : texts.Text) → AsksFor f text (Text room ∷ []) (λ row. bytes_eq (room_of row) room)
+    → ((room : texts.Text) (r : Row) → IsStoredAs f r → IsShownAs f (eval_all (columns_at 1 (length f.table.columns)) ((Text room ∷ []) ∷ r ∷ [])))
+    → is_whole text 1 (understood our_schema text) ≡ true
+    → ((room : texts.Text) → accepts_program our_schema [] (query_of f.table.tree (one_test at) (columns_at 1 (length f.table.columns))) (Text room ∷ []) ≡ true)
+    → (room : texts.Text) → AsksFor f text (Text room ∷ []) (λ row. bytes_eq (room_of row) room)
 room_asks {f = f} facts text at room_of means cell same own whole accepts room =
     asks_for f facts text (one_test at) (Text room ∷ []) (λ row. bytes_eq (room_of row) room) means
-    (λ r is. ap (λ v. equal Binary v (Text room) && true) (ap (λ y. column y at) is ∙ cell (f.row_in r) (Int (id_in (rowid r)))) ∙ and_true _ ∙ equal_text (room_of (f.row_in r)) room) (same room) (own room) whole (accepts room)
+    (λ r is. ap (λ v. equal Binary v (Text room) && true) (ap (λ y. column y at) is ∙ cell (f.row_in r) (Int (id_in (rowid r))))
+    ∙ and_true _ ∙ equal_text (room_of (f.row_in r)) room) (same room) (own room) whole (accepts room)
 
 -- for the row with an id, which is in these columns
 pub id_asks : {R : Type 0} {f : Form R Id} (facts : Facts our_schema f) (text : List ℕ) (at bt : ℕ) → MeansQuery text (asks f.table (id_tests at bt))
     → ((x : R) (v : Value) → column (v ∷ f.cells x) at ≡ Int (pos (f.key x).server)) → ((x : R) (v : Value) → column (v ∷ f.cells x) bt ≡ Int (pos (f.key x).n))
     → ((id : Id) (r : Row) → IsRowOf f r → f.row_in (Null ∷ eval_all (columns_at 1 (length f.table.columns)) ((Int (pos id.server) ∷ Int (pos id.n) ∷ []) ∷ r ∷ [])) ≡ f.row_in r)
-    → ((id : Id) (r : Row) → IsStoredAs f r → IsShownAs f (eval_all (columns_at 1 (length f.table.columns)) ((Int (pos id.server) ∷ Int (pos id.n) ∷ []) ∷ r ∷ []))) → is_whole text 2 (understood our_schema text) ≡ true
+    → ((id : Id) (r : Row) → IsStoredAs f r → IsShownAs f (eval_all (columns_at 1 (length f.table.columns)) ((Int (pos id.server) ∷ Int (pos id.n) ∷ []) ∷ r ∷ [])))
+    → is_whole text 2 (understood our_schema text) ≡ true
     → ((id : Id) → accepts_program our_schema [] (query_of f.table.tree (id_tests at bt) (columns_at 1 (length f.table.columns))) (Int (pos id.server) ∷ Int (pos id.n) ∷ []) ≡ true)
     → (id : Id) → AsksFor f text (Int (pos id.server) ∷ Int (pos id.n) ∷ []) (λ row. is_among (f.key row) (id ∷ []))
 id_asks {f = f} facts text at bt means server n same own whole accepts id =

@@ -1,5 +1,6 @@
 -- Why a query fails, and what reads one after the other makes of it.
-use Rattle.std.proofs.Common.{◌≡◌, ◌≢◌, inl, inr, ℕ, zero, suc, ◌+◌, ◌≤◌, List, [], ◌∷◌, ◌++◌, length, append-nil, map, filter, Bool, Option, Some, Result, Ok, Err, Vec, Global, true, false, IfErr, OnErr, IsSome, IsTrue, refl, sym, ap, subst, ◌∙◌, arith}
+use Rattle.std.proofs.Common.{◌≡◌, ◌≢◌, inl, inr, ℕ, zero, suc, ◌+◌, ◌≤◌, List, [], ◌∷◌, ◌++◌, length, append-nil, map, filter, Bool, Option}
+use Rattle.std.proofs.Common.{Some, Result, Ok, Err, Vec, Global, true, false, IfErr, OnErr, IsSome, IsTrue, refl, sym, ap, subst, ◌∙◌, arith}
 use Rattle.std.specs.Prelude.{⊤}
 use Rattle.std.specs.List.{All, AllByRecursion}
 use Rattle.std.specs.List.Sorted.{IsPermutation}
@@ -41,7 +42,8 @@ use Rattle.mr_rows.proofs.QueryLemmas.{clean_before}
 use Rattle.mr_rows.proofs.StreamedRows.{SoFar, OneOn}
 
 -- a text that is sure is a statement
-never_refused_in : (under : Schema) (sql : List ℕ) (params : Row) (old : State) (e : Error) → old.now.schema ≡ under → IsPlain (understood under sql) → IsSureIn under sql params → ¬ IsNoStatement old sql params e
+never_refused_in : (under : Schema) (sql : List ℕ) (params : Row) (old : State) (e : Error) → old.now.schema ≡ under
+    → IsPlain (understood under sql) → IsSureIn under sql params → ¬ IsNoStatement old sql params e
 never_refused_in under sql params old e schema plain sure (inl (fault, is, same)) = subst IsPlain (sym (ap (λ s. understood s sql) schema) ∙ is) plain
 never_refused_in under sql params old e schema plain sure (inr (c, is, why)) =
     let known : understood under sql ≡ Ok c = sym (ap (λ s. understood s sql) schema) ∙ is in
@@ -54,7 +56,8 @@ never_refused_in under sql params old e schema plain sure (inr (c, is, why)) =
     ]
 
 -- what makes a sure query fail is the store
-pub sure_fails_in : (under : Schema) (sql : List ℕ) (params : Row) (old new : State) (e : Error) → IsPlacedIn under old → IsPlain (understood under sql) → IsSureIn under sql params → FailsToQuery sql params old new e → IsOfStore old new e
+pub sure_fails_in : (under : Schema) (sql : List ℕ) (params : Row) (old new : State) (e : Error) → IsPlacedIn under old
+    → IsPlain (understood under sql) → IsSureIn under sql params → FailsToQuery sql params old new e → IsOfStore old new e
 unfolding FailsToQuery IsNotRun
 sure_fails_in under sql params old new e here plain sure (inl (inl refused)) = absurd (never_refused_in under sql params old e here.schema plain sure refused.0)
 sure_fails_in under sql params old new e here plain sure (inl (inr fails)) = inl (fails.0, fails.1, fails.2)
@@ -106,7 +109,8 @@ module _ {S : Type 0} (g : store.Ghosts S) (sql : List ℕ) (params : Row) {unde
   not_asked old new (Ok x) held = λ clean here all. tt
   not_asked old new (Err e) held = λ clean here all other. sure_fails_in under sql params (state g old) (state g new) e here plain sure (held.err clean)
 
-  pub not_advanced : (Q : List Row → Type 0) (first : State) (old new : Held S) (r : Result (Unit {0}) Error) → LooksIn {X = Unit {0}} under first (state g old) (Ok tt) (λ _. SoFar g sql params Q first old)
+  pub not_advanced : (Q : List Row → Type 0) (first : State) (old new : Held S) (r : Result (Unit {0}) Error)
+      → LooksIn {X = Unit {0}} under first (state g old) (Ok tt) (λ _. SoFar g sql params Q first old)
       → (HasCleanDisk (state g new) → IfErr r (FailsToAdvance g old new)) → Survives (state g old) (state g new) (λ _. ⊥) → FailsByStoreIn under (λ _. ⊤) first (state g new) r
   not_advanced Q first old new (Ok x) far err survives = λ clean here all. tt
   not_advanced Q first old new (Err e) far err survives = λ clean here all other.
@@ -122,7 +126,8 @@ module _ {S : Type 0} (g : store.Ghosts S) (sql : List ℕ) (params : Row) {unde
       let one = subst (OneOn g sql params Q first now) (sym is) (far.2 clean here).1 in
       last_has P one.1 x (shows (one.1 ++ x ∷ []) (begins_before sql params first (state g now) (one.1 ++ x ∷ []) one.0.0.now_is (given_begin g sql params now (one.1 ++ x ∷ []) one.2)))
 
-pub asked_fails_in : {X : Type 0} (under : Schema) (sql : List ℕ) (params : Row) (old new : State) (r : Result X Error) → IsPlain (understood under sql) → (HasCleanDisk new → IfErr r (FailsToQuery sql params old new)) → IsSureIn under sql params
+pub asked_fails_in : {X : Type 0} (under : Schema) (sql : List ℕ) (params : Row) (old new : State) (r : Result X Error)
+    → IsPlain (understood under sql) → (HasCleanDisk new → IfErr r (FailsToQuery sql params old new)) → IsSureIn under sql params
     → FailsByStoreIn under (λ _. ⊤) old new r
 asked_fails_in under sql params old new (Ok x) plain err sure = λ clean here all. tt
 asked_fails_in under sql params old new (Err e) plain err sure = λ clean here all other. sure_fails_in under sql params old new e here plain sure (err clean)
@@ -154,14 +159,16 @@ told_since : {Y : Type 0} (a b c : State) (P : Trees → Type 0) (r : Result Y E
 told_since a b c P (Ok y) survives now h = tt
 told_since a b c P (Err e) survives now h = λ other. since_first a b c P e survives now (h other)
 
-pub fails_on_where : {Y : Type 0} (Known : State → Type 0) → StaysKnown Known → (a b c : State) (After First Rows : Trees → Type 0) (r : Result Y Error) → ReachesWhere Known a b → Survives b c After → ((t : Trees) → First t → Rows t)
+pub fails_on_where : {Y : Type 0} (Known : State → Type 0) → StaysKnown Known → (a b c : State) (After First Rows : Trees → Type 0) (r : Result Y Error)
+    → ReachesWhere Known a b → Survives b c After → ((t : Trees) → First t → Rows t)
     → FailsByStoreWhere Known Rows b c r → FailsByStoreWhere Known First a c r
 fails_on_where Known stays a b c After First Rows r way survives given fails = λ clean here rows.
     let it = way.1 (clean_before survives clean) here in
     told_since a b c _ r way.0 it.0 (fails clean (stays a b here it.1 it.2) (subst Rows (sym (ap (λ (d : Database). d.trees) it.1)) (given a.now.trees rows)))
 
 -- the second of two looks fails
-pub looks_fail : {X Y : Type 0} {under : Schema} (a b c : State) (x : X) (P : X → Type 0) (r : Result Y Error) (Q : Y → Type 0) (First Rows : Trees → Type 0) → LooksIn under a b (Ok x) P → LooksIn under b c r Q → ((t : Trees) → First t → Rows t)
+pub looks_fail : {X Y : Type 0} {under : Schema} (a b c : State) (x : X) (P : X → Type 0) (r : Result Y Error) (Q : Y → Type 0) (First Rows : Trees → Type 0)
+    → LooksIn under a b (Ok x) P → LooksIn under b c r Q → ((t : Trees) → First t → Rows t)
     → FailsByStoreIn under Rows b c r → FailsByStoreIn under First a c r
 looks_fail {X} {Y} {under} a b c x P r Q First Rows first next given fails =
     fails_on_where (IsPlacedIn under) (placed_after under) a b c (λ _. ¬ IsPlacedIn under b) First Rows r (reached_where (IsPlacedIn under) a b first) next.0 given fails
@@ -177,14 +184,17 @@ pub made_fails : {X Y : Type 0} {under : Schema} (a b : State) (x : X) (P : X �
 made_fails {X} {Y} {under} a b x P Rows r = made_fails_where (IsPlacedIn under) a b x P Rows r
 
 -- the same error tells the same, whatever else would have been answered
-pub same_reads : {X Y : Type 0} (Known : State → Type 0) (old new : State) (r : Result X Error) (P : X → Type 0) (out : Result Y Error) (Q : Y → Type 0) (e : Error) → out ≡ Err e → ReadsWhere Known old new r P → ReadsWhere Known old new out Q
+pub same_reads : {X Y : Type 0} (Known : State → Type 0) (old new : State) (r : Result X Error) (P : X → Type 0) (out : Result Y Error) (Q : Y → Type 0) (e : Error)
+    → out ≡ Err e → ReadsWhere Known old new r P → ReadsWhere Known old new out Q
 same_reads {X} {Y} Known old new r P out Q e is h = subst (λ (o : Result Y Error). ReadsWhere Known old new o Q) (sym is) (h.0, h.1, λ clean here. (tt, tt))
 
 pub same_error : {X Y : Type 0} (r : Result X Error) (out : Result Y Error) (e : Error) (P : Error → Type 0) → r ≡ Err e → out ≡ Err e → IfErr r P → IfErr out P
 same_error {X} {Y} r out e P was is h = subst (λ (o : Result Y Error). IfErr o P) (sym is) (subst (λ (o : Result X Error). IfErr o P) was h)
 
-pub same_fails : {X Y : Type 0} (Known : State → Type 0) (Rows : Trees → Type 0) (old new : State) (r : Result X Error) (out : Result Y Error) (e : Error) → r ≡ Err e → out ≡ Err e → FailsByStoreWhere Known Rows old new r → FailsByStoreWhere Known Rows old new out
-same_fails {X} {Y} Known Rows old new r out e was is h = subst (λ (o : Result Y Error). FailsByStoreWhere Known Rows old new o) (sym is) (subst (λ (o : Result X Error). FailsByStoreWhere Known Rows old new o) was h)
+pub same_fails : {X Y : Type 0} (Known : State → Type 0) (Rows : Trees → Type 0) (old new : State) (r : Result X Error) (out : Result Y Error) (e : Error)
+    → r ≡ Err e → out ≡ Err e → FailsByStoreWhere Known Rows old new r → FailsByStoreWhere Known Rows old new out
+same_fails {X} {Y} Known Rows old new r out e was is h =
+    subst (λ (o : Result Y Error). FailsByStoreWhere Known Rows old new o) (sym is) (subst (λ (o : Result X Error). FailsByStoreWhere Known Rows old new o) was h)
 
 -- ---- what is made of rows
 
@@ -192,7 +202,8 @@ pub none_shown : (show : Row → Row) (stored shown : List Row) → IsPermutatio
 none_shown show stored [] same none = refl
 none_shown show stored (r ∷ shown) same none = absurd (has_moved _ [] (IsPermutation-sym _ _ (subst (λ xs. IsPermutation (map show xs) (r ∷ shown)) none same)) r (inl refl))
 
-pub not_none : {X : Type 0} (show : Row → Row) (stored shown : List Row) (r : Result X Error) → IsPermutation (map show stored) shown → IfErr r (λ _. shown ≢ []) → stored ≡ [] → IfErr r (λ e. e ≢ SqliteFailure code.OutOfMemory → ⊥)
+pub not_none : {X : Type 0} (show : Row → Row) (stored shown : List Row) (r : Result X Error) → IsPermutation (map show stored) shown
+    → IfErr r (λ _. shown ≢ []) → stored ≡ [] → IfErr r (λ e. e ≢ SqliteFailure code.OutOfMemory → ⊥)
 not_none show stored shown (Ok x) same refused none = tt
 not_none show stored shown (Err e) same refused none = λ other. refused (none_shown show stored shown same none)
 
@@ -228,7 +239,8 @@ all_front P [] tail all = tt
 all_front P (r ∷ rows) tail all = (all.0, all_front P rows tail all.1)
 
 -- rows that begin an answer of all rows of a table which are its own
-pub shows_only : {under : Schema} (tree n : ℕ) (sql : List ℕ) (P Q : Row → Type 0) (s : State) → AsksAll under tree n sql → ((r : Row) → Q r → P (columns_from 1 n r)) → s.now.schema ≡ under → AllByRecursion Q (s.now.trees tree)
+pub shows_only : {under : Schema} (tree n : ℕ) (sql : List ℕ) (P Q : Row → Type 0) (s : State) → AsksAll under tree n sql
+    → ((r : Row) → Q r → P (columns_from 1 n r)) → s.now.schema ≡ under → AllByRecursion Q (s.now.trees tree)
     → ShowsOnly P sql [] s
 shows_only tree n sql P Q s asks way schema stored rows h =
     let it = begins_all tree n sql asks s rows schema h in
@@ -255,13 +267,15 @@ not_one f trees shown (Err e) way same refused rows = λ other.
     refused (omega (arith, many, as_many, few)) (all_shown (IsShownAs f) (IsStoredAs f) show stored shown way same rows.0)
 
 -- what reads rows that are shown of a table whose rows are its own
-pub chosen_fails : {R K Y : Type 0} (f : Form R K) (chosen : R → Bool) (a b : State) (rows : Vec Row Global) (r : Result Y Error) → LooksIn our_schema a b (Ok rows) (λ rows. AreChosen f chosen a.now.trees rows.items)
+pub chosen_fails : {R K Y : Type 0} (f : Form R K) (chosen : R → Bool) (a b : State) (rows : Vec Row Global) (r : Result Y Error)
+    → LooksIn our_schema a b (Ok rows) (λ rows. AreChosen f chosen a.now.trees rows.items)
     → IfErr r (λ e. e ≢ SqliteFailure code.OutOfMemory → ¬ All (IsShownAs f) rows.items) → FailsByStore (AreStoredAs f) a b r
 chosen_fails f chosen a b rows (Ok y) looks refused = λ clean here stored. tt
 chosen_fails f chosen a b rows (Err e) looks refused = λ clean here stored other. absurd (refused other ((looks.2 clean here).1.1 stored))
 
 -- the first of the rows of `meta`, if there is one and no other
-pub not_first_meta : {X : Type 0} (schema : ℕ) (Q : Row → Type 0) → ((r : Row) → Q r → are_meta_cells schema (columns_from 1 7 r) ≡ true) → (stored shown : List Row) (r : Result X Error) → IsPermutation (map (columns_from 1 7) stored) shown
+pub not_first_meta : {X : Type 0} (schema : ℕ) (Q : Row → Type 0) → ((r : Row) → Q r → are_meta_cells schema (columns_from 1 7 r) ≡ true)
+    → (stored shown : List Row) (r : Result X Error) → IsPermutation (map (columns_from 1 7) stored) shown
     → IfErr r (λ _. (row : Row) → first_of shown ≡ Some row → are_meta_cells schema row ≡ false) → AllByRecursion Q stored × (length stored ≡ 1) → IfErr r (λ e. e ≢ SqliteFailure code.OutOfMemory → ⊥)
 not_first_meta schema Q way stored shown (Ok x) same refused rows = tt
 not_first_meta schema Q way stored shown (Err e) same refused rows = λ other. first shown same refused

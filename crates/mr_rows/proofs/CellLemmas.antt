@@ -1,5 +1,5 @@
 -- What is read of a cell, and which cells are refused.
-use Rattle.std.proofs.Common.{◌≡◌, ⊎_elim, ℕ, ◌+◌, ◌-◌, ◌/◌, ◌%◌, ◌<◌, ◌≤◌, length, true, false, not, Bool, Some, None, Result, Ok, Err, IsTrue, cond, refl, sym, ap, subst, ◌∙◌, arith, lit<, ltb-true}
+use Rattle.std.proofs.Common.{◌≡◌, ⊎_elim, ℕ, ◌+◌, ◌-◌, ◌/◌, ◌%◌, ◌<◌, ◌≤◌, length, true, false, not, Bool, Some, None, Result, Ok, Err, IsTrue, cond, refl, sym, ap, subst, ◌∙◌, arith, ltb-true}
 use Rattle.std.proofs.lemmas.Bool.{and_parts, cases_lt, false_from_ne_true, true≢false}
 use Rattle.std.proofs.lemmas.Bool.Decides.{nat_tests}
 use Rattle.std.proofs.lemmas.List.{get_or_past}
@@ -8,7 +8,7 @@ use Rattle.std.proofs.lemmas.Result.{IfErr-weaker}
 use Rattle.std.proofs.lemmas.Slice.Eq.{bytes_eq-Decides}
 use Rattle.std.proofs.lemmas.Str.{IsUtf8-from_ascii, IsUtf8-from_is_utf8, is_utf8-from_IsUtf8}
 use Rattle.std.proofs.lemmas.Str.Ascii.{IsAscii-from_all}
-use Rattle.std.specs.List.{AllByRecursion, list_all}
+use Rattle.std.specs.List.{list_all}
 use Rattle.std.specs.Prelude.{bytes_eq, ok_or, is_ok, IfOk, IfErr, nat_le, nat_lt, slice_index, ◌==◌}
 use Rattle.std.specs.Str.{IsUtf8, is_utf8}
 use Rattle.sqlite_keyed.proofs.ListLemmas.{all_weaker, all_from_test}
@@ -19,10 +19,10 @@ use Rattle.sqlite_value.specs.Order.{Row, column, bytes}
 use Rattle.mr_model.specs.Texts.{Text, within}
 use Rattle.mr_model.specs.Calendar.{Date, is_date, date_text, date_in, read_date, time_text, time_in}
 use Rattle.mr_model.specs.Writes.{is_room_byte, is_room_name, is_title}
-use Rattle.mr_model.proofs.WordsReadBack.{date_facts}
 use Rattle.mr_rows.specs.RowLimits.{is_day_text, is_start_text}
 use Rattle.mr_rows.specs.CellLimits.{is_text}
 use Rattle.mr_rows.specs.ShownCells.{text as text_cell}
+use Rattle.mr_model.proofs.LowBytes.{time_low, date_low, Low}
 
 -- ---- days
 
@@ -72,9 +72,6 @@ no_text p q all v fails = false_from_ne_true _ (λ passes. let s = (text_cell q 
 
 -- ---- what is ASCII
 
-abbrev pub Low : Text → Type 0
-Low t = AllByRecursion (λ c. c < 128) t
-
 pub utf8 : (t : Text) → Low t → is_utf8 t ≡ true
 utf8 t h = is_utf8-from_IsUtf8 t (IsUtf8-from_ascii t (IsAscii-from_all t (All-from_recursion (λ c. c < 128) t h)))
 
@@ -99,25 +96,6 @@ title_utf8 t h =
     let a = and_parts _ (not (slice_index t (length t - 1) == 32)) h in
     let b = and_parts _ (not (slice_index t 0 == 32)) a.0 in
     tested_utf8 (λ c. within 32 126 c) (λ c is. grind (arith, nat_tests)) t (and_parts (within 1 60 (length t)) _ b.0).1
-
-two_low : (n : ℕ) → n < 100 → (48 + n / 10 < 128) × (48 + n % 10 < 128)
-two_low n h = (omega (arith, h), omega (arith, h))
-
-pub date_low : (d : Date) → is_date d ≡ true → Low (date_text d)
-date_low d ok =
-    let f = date_facts d ok in
-    let y : d.year < 2100 = f.to_2099 in
-    let century = two_low (d.year / 100) (omega (arith, y)) in
-    let year = two_low (d.year % 100) (omega arith) in
-    let month = two_low d.month f.month in
-    let day = two_low d.day f.day in
-    (century.0, (century.1, (year.0, (year.1, (lit< tt, (month.0, (month.1, (lit< tt, (day.0, (day.1, tt))))))))))
-
-pub time_low : (n : ℕ) → n ≤ 1439 → Low (time_text n)
-time_low n h =
-    let hour = two_low (n / 60) (omega (arith, h)) in
-    let minute = two_low (n % 60) (omega arith) in
-    (hour.0, (hour.1, (lit< tt, (minute.0, (minute.1, tt)))))
 
 pub start_utf8 : (n : ℕ) (t : Text) → is_start_text n t ≡ true → is_utf8 t ≡ true
 start_utf8 n t h =

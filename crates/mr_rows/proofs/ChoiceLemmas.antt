@@ -38,7 +38,8 @@ too_short n t low = false_from_ne_true _ (λ is. absurd (let long = five (and_pa
 pub choices_told : (n : ℕ) (t bytes : Text) (v : Value) → v ≡ cell.Text t → bytes ≡ t → is_utf8 t ≡ true → are_choices 17 n bytes ≡ is_text (is_choices n) v
 choices_told n t bytes v is same ok = ap (are_choices 17 n) same ∙ sym (ap (λ b. b && are_choices 17 n t) ok) ∙ sym (ap (is_text (is_choices n)) is)
 
-pub choices_unread : {X E : Type 0} (other : E → Type 0) (n : ℕ) (v : Value) (r : Result X E) → IfErr r (λ e. other e → is_text is_utf8 v ≡ false) → IfErr r (λ e. other e → is_text (is_choices n) v ≡ false)
+pub choices_unread : {X E : Type 0} (other : E → Type 0) (n : ℕ) (v : Value) (r : Result X E)
+    → IfErr r (λ e. other e → is_text is_utf8 v ≡ false) → IfErr r (λ e. other e → is_text (is_choices n) v ≡ false)
 choices_unread other n v r told = IfErr-weaker r _ _ (λ e none o. no_text is_utf8 (is_choices n) (λ t h. (and_parts (is_utf8 t) _ h).0) v (none o)) told
 
 -- ---- one slot after the other

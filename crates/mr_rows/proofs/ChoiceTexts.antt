@@ -1,5 +1,5 @@
 -- The text of a meeting's choices passes its test.
-use Rattle.std.proofs.Common.{◌≡◌, ℕ, zero, suc, ◌+◌, ◌≤◌, ◌<◌, List, [], ◌∷◌, ◌++◌, length, flat_map, true, ◌&&◌, refl, ap, ◌∙◌, arith, lit<, leb-true, lt-ltb}
+use Rattle.std.proofs.Common.{◌≡◌, ℕ, zero, suc, ◌+◌, ◌≤◌, ◌<◌, List, [], ◌∷◌, ◌++◌, length, flat_map, true, ◌&&◌, refl, ap, ◌∙◌, arith, leb-true, lt-ltb}
 use Rattle.std.proofs.lemmas.Bool.{and_parts, and_from, or_right}
 use Rattle.std.proofs.lemmas.Slice.Eq.{bytes_eq-Decides}
 use Rattle.std.specs.Prelude.{nat_le}
@@ -11,9 +11,10 @@ use Rattle.mr_model.specs.Slots.{Slot, is_slot, slot_words}
 use Rattle.mr_model.specs.Writes.{Meeting, is_meeting, fits_day, choices_of}
 use Rattle.mr_model.specs.Tables.{choices_text}
 use Rattle.mr_model.proofs.LinesReadBack.{meeting_facts}
-use Rattle.mr_model.proofs.WordsReadBack.{all_append, date-text, time-text}
+use Rattle.mr_model.proofs.WordsReadBack.{date-text, time-text}
 use Rattle.mr_rows.specs.RowLimits.{is_day_text, is_start_text, begins_with_slot, are_choices, is_choices}
-use Rattle.mr_rows.proofs.CellLemmas.{Low, utf8, date_low, time_low}
+use Rattle.mr_rows.proofs.CellLemmas.{utf8}
+use Rattle.mr_model.proofs.LowBytes.{words_low, time_low, date_low, Low}
 
 own_day : (d : Date) → is_date d ≡ true → is_day_text (date_text d) ≡ true
 own_day d h = let same = date-text d h in and_from (is_date (date_in (date_text d))) _ (ap is_date same ∙ h) ((bytes_eq-Decides (date_text (date_in (date_text d))) _).1 (ap date_text same))
@@ -28,7 +29,8 @@ in_front n s more h =
     let slot = and_parts (is_date s.day) (nat_le s.start 1439) both.0 in
     and_from _ _ (and_from _ _ (own_day s.day slot.0) refl) (own_time s.start n (leb-true s.start 1439 slot.1) both.1)
 
-slots_pass : (most n : ℕ) (s : Slot) (ss : List Slot) → length ss ≤ most → list_all (λ x. is_slot x && fits_day n x) (s ∷ ss) ≡ true → are_choices (suc most) n (words (flat_map slot_words (s ∷ ss))) ≡ true
+slots_pass : (most n : ℕ) (s : Slot) (ss : List Slot) → length ss ≤ most → list_all (λ x. is_slot x && fits_day n x) (s ∷ ss) ≡ true
+    → are_choices (suc most) n (words (flat_map slot_words (s ∷ ss))) ≡ true
 unfolding are_choices
 slots_pass most n s [] few h =
     let all = and_parts (is_slot s && fits_day n s) _ h in
@@ -42,11 +44,6 @@ slots_pass (suc most) n s (r ∷ ss) few h =
 
 -- ---- and it is UTF-8
 
-words_low : (ws : List Text) → AllByRecursion Low ws → Low (words ws)
-words_low [] h = tt
-words_low (w ∷ []) h = h.0
-words_low (w ∷ v ∷ ws) h = all_append (λ c. c < 128) w (32 ∷ words (v ∷ ws)) h.0 (lit< tt, words_low (v ∷ ws) h.1)
-
 slots_low : (n : ℕ) (ss : List Slot) → list_all (λ x. is_slot x && fits_day n x) ss ≡ true → AllByRecursion Low (flat_map slot_words ss)
 slots_low n [] h = tt
 slots_low n (s ∷ ss) h =
@@ -57,4 +54,5 @@ slots_low n (s ∷ ss) h =
 pub choices_within : (m : Meeting) → is_meeting m ≡ true → is_choices m.length (choices_text m) ≡ true
 choices_within m h =
     let f = meeting_facts m h in
-    and_from (is_utf8 (choices_text m)) _ (utf8 (choices_text m) (words_low (flat_map slot_words (choices_of m)) (slots_low m.length (choices_of m) f.slots))) (slots_pass 16 m.length m.wish m.alternatives f.few f.slots)
+    and_from (is_utf8 (choices_text m)) _ (utf8 (choices_text m) (words_low (flat_map slot_words (choices_of m)) (slots_low m.length (choices_of m) f.slots)))
+    (slots_pass 16 m.length m.wish m.alternatives f.few f.slots)

@@ -44,7 +44,8 @@ drop_front [] ys = refl
 drop_front (x ∷ xs) ys = drop_front xs ys
 
 -- two values are read back off their cells
-pub again_both : {A B : Type 0} (a : Columns A) (b : Columns B) → AreSpelled a → (x : A) (y : B) → a.value_in (a.cells x) ≡ x → b.value_in (b.cells y) ≡ y → (both a b).value_in ((both a b).cells (x, y)) ≡ (x, y)
+pub again_both : {A B : Type 0} (a : Columns A) (b : Columns B) → AreSpelled a → (x : A) (y : B)
+    → a.value_in (a.cells x) ≡ x → b.value_in (b.cells y) ≡ y → (both a b).value_in ((both a b).cells (x, y)) ≡ (x, y)
 again_both a b spelled x y of_x of_y =
     let wide = sym (spelled x).0 in
     let first = ap (λ n. a.value_in (take n (a.cells x ++ b.cells y))) wide ∙ ap a.value_in (take_front (a.cells x) (b.cells y)) ∙ of_x in

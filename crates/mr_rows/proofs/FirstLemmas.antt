@@ -40,7 +40,8 @@ pub has_moved : {X : Type 0} (xs ys : List X) (x : X) → IsPermutation xs ys �
 has_moved xs ys x same h = has_of ys x (has_contained ys x (Contains-permutation xs ys x same (contains_had xs x (of_has xs x h))))
 
 -- the first of the rows that a query shows of an id is the one that the table has
-found : {R : Type 0} (key : R → Id) (id : Id) (table shown : List R) → OneAKey key table → IsPermutation (filter (λ r. is_among (key r) (id ∷ [])) table) shown → first_of shown ≡ find (λ r. same_id (key r) id) table
+found : {R : Type 0} (key : R → Id) (id : Id) (table shown : List R) → OneAKey key table
+    → IsPermutation (filter (λ r. is_among (key r) (id ∷ [])) table) shown → first_of shown ≡ find (λ r. same_id (key r) id) table
 found {R} key id table [] one same = sym (find_none (λ r. same_id (key r) id) table (λ x h. fails x h (same_id (key x) id) refl))
   where
     fails : (x : R) → Has x table → (b : Bool) → same_id (key x) id ≡ b → same_id (key x) id ≡ false
@@ -56,19 +57,24 @@ found {R} key id table (r ∷ more) one same =
 pub ids_apart : {R : Type 0} (key : R → Id) (row_in : Row → R) (stored : List Row) → OneAKey key (put_all id_before key (map row_in stored) [])
 ids_apart key row_in stored = one_a_key id_before key id_order _ (ordered_in_order id_before key id_order (map row_in stored))
 
-pub first_found : {R : Type 0} (key : R → Id) (row_in : Row → R) (id : Id) (stored : List Row) (shown : List R) → IsPermutation (filter (λ r. is_among (key r) (id ∷ [])) (put_all id_before key (map row_in stored) [])) shown
+pub first_found : {R : Type 0} (key : R → Id) (row_in : Row → R) (id : Id) (stored : List Row) (shown : List R)
+    → IsPermutation (filter (λ r. is_among (key r) (id ∷ [])) (put_all id_before key (map row_in stored) [])) shown
     → first_of shown ≡ find (λ r. same_id (key r) id) (put_all id_before key (map row_in stored) [])
 first_found key row_in id stored shown = found key id _ shown (ids_apart key row_in stored)
 
-pub the_row : {R K : Type 0} (f : Form R K) (id_of : R → Id) → ((stored : List Row) → in_order f stored ≡ put_all id_before id_of (map f.row_in stored) []) → (id : Id) (stored : List Row) (shown : List R)
+pub the_row : {R K : Type 0} (f : Form R K) (id_of : R → Id)
+    → ((stored : List Row) → in_order f stored ≡ put_all id_before id_of (map f.row_in stored) []) → (id : Id) (stored : List Row) (shown : List R)
     → IsPermutation (filter (λ r. is_among (id_of r) (id ∷ [])) (in_order f stored)) shown → first_of shown ≡ find (λ r. same_id (id_of r) id) (in_order f stored)
 the_row {R} f id_of by_id id stored shown =
-    subst (λ (rows : List R). IsPermutation (filter (λ r. is_among (id_of r) (id ∷ [])) rows) shown → first_of shown ≡ find (λ r. same_id (id_of r) id) rows) (sym (by_id stored)) (first_found id_of f.row_in id stored shown)
+    subst (λ (rows : List R). IsPermutation (filter (λ r. is_among (id_of r) (id ∷ [])) rows) shown → first_of shown ≡ find (λ r. same_id (id_of r) id) rows)
+    (sym (by_id stored)) (first_found id_of f.row_in id stored shown)
 
 -- ---- the row of `meta`
 
-pub meta_is : (rows : List Row) (shown : List MetaRow) (m : MetaRow) → IsPermutation (put_all nat_lt (λ _. 1) (map meta_in rows) []) shown → first_of shown ≡ Some m → m ≡ first_meta (put_all nat_lt (λ _. 1) (map meta_in rows) [])
-meta_is rows shown m same first = go _ (has_moved shown _ m (IsPermutation-sym _ _ same) (has_first shown first)) (one_a_key nat_lt (λ _. 1) number_order _ (ordered_in_order nat_lt (λ _. 1) number_order (map meta_in rows)))
+pub meta_is : (rows : List Row) (shown : List MetaRow) (m : MetaRow) → IsPermutation (put_all nat_lt (λ _. 1) (map meta_in rows) []) shown
+    → first_of shown ≡ Some m → m ≡ first_meta (put_all nat_lt (λ _. 1) (map meta_in rows) [])
+meta_is rows shown m same first = go _ (has_moved shown _ m (IsPermutation-sym _ _ same) (has_first shown first))
+    (one_a_key nat_lt (λ _. 1) number_order _ (ordered_in_order nat_lt (λ _. 1) number_order (map meta_in rows)))
   where
     has_first : (xs : List MetaRow) → first_of xs ≡ Some m → Has m xs
     has_first [] e = absurd (cc)
@@ -85,6 +91,7 @@ first_is [] = refl
 first_is (x ∷ xs) = refl
 
 -- what refuses the first row is so of it
-pub of_first : {X : Type 0} (rows : List Row) (one : Row) (r : Result X Error) (P : Row → Type 0) → Some one ≡ slice_get rows 0 → IfErr r (λ _. P one) → IfErr r (λ _. (row : Row) → first_of rows ≡ Some row → P row)
+pub of_first : {X : Type 0} (rows : List Row) (one : Row) (r : Result X Error) (P : Row → Type 0)
+    → Some one ≡ slice_get rows 0 → IfErr r (λ _. P one) → IfErr r (λ _. (row : Row) → first_of rows ≡ Some row → P row)
 of_first rows one (Ok x) P is h = tt
 of_first rows one (Err e) P is h = λ row here. subst P (some_inj one row (is ∙ sym (first_is rows) ∙ here)) h

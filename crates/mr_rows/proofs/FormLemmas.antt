@@ -1,5 +1,6 @@
 -- What each form of statement makes of the rows of its table.
-use Rattle.std.proofs.Common.{◌≡◌, ◌≢◌, ◌⊎◌, inl, inr, ℕ, ℤ, List, [], ◌∷◌, ◌++◌, map, filter, flat_map, Bool, true, false, not, if◌then◌else◌, Some, None, Option, Ok, Err, Result, Less, refl, sym, ap, subst, ◌∙◌}
+use Rattle.std.proofs.Common.{◌≡◌, ◌≢◌, ◌⊎◌, inl, inr, ℕ, ℤ, List, [], ◌∷◌, ◌++◌, map, filter, flat_map, Bool, true, false}
+use Rattle.std.proofs.Common.{not, if◌then◌else◌, Some, None, Option, Ok, Err, Result, Less, refl, sym, ap, subst, ◌∙◌}
 use Rattle.std.specs.List.{list_all}
 use Rattle.std.specs.List.Sorted.{IsPermutation}
 use Rattle.std.specs.Ordering.{is_lt, int_cmp}
@@ -104,7 +105,8 @@ module _ (task : Task) (mode : Mode) (free : (taken news : List Row) → works t
       let test = passes tests params in
       let show = λ (r : Row). eval_all (col 1 0 ∷ []) (params ∷ r ∷ []) in
       let kept = db tree in
-      let answer : IsAnswer (query_of tree tests (col 1 0 ∷ [])) (overlay db []) params rows = subst (λ (p : Program). IsAnswer p.body (overlay db []) params rows) is (sure db params rows q is queried.1.answer) in
+      let answer : IsAnswer (query_of tree tests (col 1 0 ∷ [])) (overlay db []) params rows =
+      subst (λ (p : Program). IsAnswer p.body (overlay db []) params rows) is (sure db params rows q is queried.1.answer) in
       let moved = shows tree tests (col 1 0 ∷ []) db params rows own answer in
       let sound : (x : Row) → Has rows x → (r : Row) × Has kept r × (test r ≡ true) × (id_in (rowid x) ≡ id_in (rowid r)) = λ x h.
       let y = has_mapped show (filter test kept) x (has_moved rows _ (IsPermutation-sym _ _ moved) x h) in

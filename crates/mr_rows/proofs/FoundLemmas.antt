@@ -1,5 +1,6 @@
 -- Rows that were found in the tables of a sound database, and read, are held.
-use Rattle.std.proofs.Common.{◌≡◌, inl, inr, ℕ, pos, ◌+◌, zero, suc, List, [], ◌∷◌, map, length, drop, true, not, ◌&&◌, ◌||◌, IsTrue, None, Some, Option, Ok, Err, Result, IfOk, OnOk, refl, sym, ap, subst, ◌∙◌, Less, arith, add-one, eq-eqb}
+use Rattle.std.proofs.Common.{◌≡◌, inl, inr, ℕ, pos, ◌+◌, zero, suc, List, [], ◌∷◌, map, length, drop, true, not, ◌&&◌, ◌||◌, IsTrue}
+use Rattle.std.proofs.Common.{None, Some, Option, Ok, Err, Result, IfOk, OnOk, refl, sym, ap, subst, ◌∙◌, Less, arith, add-one, eq-eqb}
 use Rattle.std.specs.List.{All, AllByRecursion, list_all}
 use Rattle.std.proofs.lemmas.List.Elements.{recursion_from_All}
 use Rattle.std.specs.List.Sorted.{IsPermutation}
@@ -48,14 +49,17 @@ use Rattle.mr_rows.proofs.StepLemmas.{first_put}
 
 -- ---- what is said of shown rows holds of the stored ones
 
-pub stored_so : (P Q : Row → Type 0) (show : Row → Row) (stored shown : List Row) → ((r : Row) → P (show r) → Q r) → IsPermutation (map show stored) shown → AllByRecursion P shown → AllByRecursion Q stored
+pub stored_so : (P Q : Row → Type 0) (show : Row → Row) (stored shown : List Row) → ((r : Row) → P (show r) → Q r)
+    → IsPermutation (map show stored) shown → AllByRecursion P shown → AllByRecursion Q stored
 stored_so P Q show stored shown way same all = all_from Q stored (λ r here. way r (all_has P shown (show r) all (has_moved _ shown same (show r) (has_map show stored r here))))
 
-pub meta_found : (number : ℕ) (trees : Trees) (shown : List Row) (r : Result (Option MetaRow) Error) → IsPermutation (map (columns_from 1 7) (trees 0)) shown → OnOk r (All (IsShownAs (meta_form_of number)) shown)
+pub meta_found : (number : ℕ) (trees : Trees) (shown : List Row) (r : Result (Option MetaRow) Error)
+    → IsPermutation (map (columns_from 1 7) (trees 0)) shown → OnOk r (All (IsShownAs (meta_form_of number)) shown)
     → IfOk r (λ m. map (λ row. meta_in (Null ∷ row)) shown ≡ listed m) → IfOk r (λ m. AreStoredAs (meta_form_of number) trees × IsMeta trees m)
 meta_found number trees shown (Ok m) same all is = (
   stored_so (IsShownAs (meta_form_of number)) (IsStoredAs (meta_form_of number)) (columns_from 1 7) (trees 0) shown (λ r h. h) same (recursion_from_All _ shown all),
-  subst (λ xs. IsPermutation xs (listed m)) (twice (trees 0)) (subst (IsPermutation (map (λ row. meta_in (Null ∷ row)) (map (columns_from 1 7) (trees 0)))) is (IsPermutation-map (λ row. meta_in (Null ∷ row)) _ shown same)),
+  subst (λ xs. IsPermutation xs (listed m)) (twice (trees 0))
+      (subst (IsPermutation (map (λ row. meta_in (Null ∷ row)) (map (columns_from 1 7) (trees 0)))) is (IsPermutation-map (λ row. meta_in (Null ∷ row)) _ shown same)),
 )
   where
     twice : (rows : List Row) → map (λ row. meta_in (Null ∷ row)) (map (columns_from 1 7) rows) ≡ map meta_in rows
@@ -146,7 +150,8 @@ counted (c ∷ columns) at r [] same none typed present =
     let gone : column r (at + 1) ≡ Null = sym (same 0 ∙ ap (column r) index) in
     absurd (let e = rw (required, gone) at there in cc)
 counted (c ∷ columns) at r (v ∷ vs) same none typed present =
-    let more = counted columns (at + 1) r vs (λ k. next k) (and_parts c.not_null _ none).1 (and_parts (suits c v) (are_typed None (at + 1) columns vs) typed).1 (and_parts (not c.not_null || not (is_null (column r (at + 1)))) (are_present None (at + 1) columns r) present).1 in
+    let more = counted columns (at + 1) r vs (λ k. next k) (and_parts c.not_null _ none).1 (and_parts (suits c v) (are_typed None (at + 1) columns vs) typed).1
+    (and_parts (not c.not_null || not (is_null (column r (at + 1)))) (are_present None (at + 1) columns r) present).1 in
     ap suc more
   where
     next : (k : ℕ) → column vs k ≡ column r (at + 1 + 1 + k)
@@ -221,13 +226,16 @@ module _ {under : Schema} {R K : Type 0} (f : Form R K) (ruled : Ruled under f) 
       test_has (λ i. not (guards i f.table && clashes i.order i.columns rows s)) under.indexes ruled.index (ruled_by Unique s at_s) ruled.indexed in
       let clash : clashes order places rows s ≡ true =
       some_from (λ other. agree order places other places s && differ (rowid other) (rowid s)) rows r at_r
-      (and_from (agree order places r places s) (differ (rowid r) (rowid s)) (ruled.agrees r s (row_of r at_r) (row_of s at_s) same) (other_rowids (rowid r) (rowid s) (keyed_by r at_r) (keyed_by s at_s) low)) in
+      (and_from (agree order places r places s) (differ (rowid r) (rowid s)) (ruled.agrees r s (row_of r at_r) (row_of s at_s) same)
+      (other_rowids (rowid r) (rowid s) (keyed_by r at_r) (keyed_by s at_s) low)) in
       absurd (let e = rw (ruled.guarding, clash) at rule in cc)
 
   all_apart : (xs : List Row) → ((r : Row) → Has xs r → Has rows r) → IsTable xs → IsAscending (λ r s. f.key (f.row_in r) ≡ f.key (f.row_in s) → ⊥) xs
   all_apart [] inside up = tt
-  all_apart (r ∷ xs) inside up =
-      (all_from (λ s. f.key (f.row_in r) ≡ f.key (f.row_in s) → ⊥) xs (λ s h. apart_from r s (inside r (inl refl)) (inside s (inr h)) (all_has (λ s. value_cmp (rowid r) (rowid s) ≡ Less) xs s up.0 h)), all_apart xs (λ s h. inside s (inr h)) up.1)
+  all_apart (r ∷ xs) inside up = (
+    all_from (λ s. f.key (f.row_in r) ≡ f.key (f.row_in s) → ⊥) xs (λ s h. apart_from r s (inside r (inl refl)) (inside s (inr h)) (all_has (λ s. value_cmp (rowid r) (rowid s) ≡ Less) xs s up.0 h)),
+    all_apart xs (λ s h. inside s (inr h)) up.1,
+  )
 
   pub held : IsHeld f rows
   held = record { shelf = shelf; whole = all_from (IsRowOf f) rows row_of; apart = all_apart rows (λ r h. h) shelf.rise }
@@ -277,7 +285,8 @@ ids_agree at bt r s x y a b c d same =
     and_from _ _ (equal_numbers (column r at) (column s at) x.server y.server a b (ap (λ (i : Id). i.server) same))
     (and_from _ _ (equal_numbers (column r bt) (column s bt) x.n y.n c d (ap (λ (i : Id). i.n) same)) refl)
 
-pub ruled_by_ids : {under : Schema} {R : Type 0} (f : Form R Id) (index : Index) (at bt : ℕ) → Has under.tables f.table → Has under.indexes index → f.table.key ≡ None → list_all (λ (c : Column). c.not_null) f.table.columns ≡ true → guards index f.table ≡ true
+pub ruled_by_ids : {under : Schema} {R : Type 0} (f : Form R Id) (index : Index) (at bt : ℕ) → Has under.tables f.table
+    → Has under.indexes index → f.table.key ≡ None → list_all (λ (c : Column). c.not_null) f.table.columns ≡ true → guards index f.table ≡ true
     → ((r s : Row) → agree index.order index.columns r index.columns s ≡ (equal Binary (column r at) (column s at) && (equal Binary (column r bt) (column s bt) && true)))
     → ((x : R) (v : Value) → column (v ∷ f.cells x) at ≡ Int (pos (f.key x).server)) → ((x : R) (v : Value) → column (v ∷ f.cells x) bt ≡ Int (pos (f.key x).n)) → Ruled under f
 ruled_by_ids f index at bt listed indexed keyless required guarding agrees server n = record {
@@ -291,7 +300,8 @@ ruled_by_ids f index at bt listed indexed keyless required guarding agrees serve
       let rid = Int (id_in (rowid r)) in
       let sid = Int (id_in (rowid s)) in
       agrees r s
-      ∙ ids_agree at bt r s (f.key (f.row_in r)) (f.key (f.row_in s)) (ap (λ x. column x at) a ∙ server (f.row_in r) rid) (ap (λ x. column x at) b ∙ server (f.row_in s) sid) (ap (λ x. column x bt) a ∙ n (f.row_in r) rid) (ap (λ x. column x bt) b ∙ n (f.row_in s) sid) same;
+      ∙ ids_agree at bt r s (f.key (f.row_in r)) (f.key (f.row_in s)) (ap (λ x. column x at) a ∙ server (f.row_in r) rid)
+      (ap (λ x. column x at) b ∙ server (f.row_in s) sid) (ap (λ x. column x bt) a ∙ n (f.row_in r) rid) (ap (λ x. column x bt) b ∙ n (f.row_in s) sid) same;
 }
 
 booking_ruled : Ruled our_schema booking_form
@@ -304,15 +314,18 @@ error_ruled = ruled_by_ids error_form _ 5 6 (inr (inr (inr (inr (inr (inr (inl r
 
 log_ruled : Ruled our_schema log_form
 unfolding first_key
-log_ruled = ruled_by_ids log_form _ 1 2 (inr (inr (inr (inr (inr (inr (inr (inl refl)))))))) (inr (inr (inr (inr (inr (inr (inr (inl refl)))))))) refl refl refl (λ r s. refl) (λ x v. refl) (λ x v. refl)
+log_ruled = ruled_by_ids log_form _ 1 2 (inr (inr (inr (inr (inr (inr (inr (inl refl))))))))
+    (inr (inr (inr (inr (inr (inr (inr (inl refl)))))))) refl refl refl (λ r s. refl) (λ x v. refl) (λ x v. refl)
 
 cancelled_ruled : Ruled our_schema cancelled_form
 unfolding first_key
-cancelled_ruled = ruled_by_ids cancelled_form _ 5 6 (inr (inr (inr (inr (inr (inr (inr (inr (inl refl))))))))) (inr (inr (inr (inr (inr (inr (inr (inr (inl refl))))))))) refl refl refl (λ r s. refl) (λ x v. refl) (λ x v. refl)
+cancelled_ruled = ruled_by_ids cancelled_form _ 5 6 (inr (inr (inr (inr (inr (inr (inr (inr (inl refl)))))))))
+    (inr (inr (inr (inr (inr (inr (inr (inr (inl refl))))))))) refl refl refl (λ r s. refl) (λ x v. refl) (λ x v. refl)
 
 cancel_ruled : Ruled our_schema cancel_form
 unfolding first_key
-cancel_ruled = ruled_by_ids cancel_form _ 1 2 (inr (inr (inr (inr (inr (inr (inr (inr (inr (inl refl)))))))))) (inr (inr (inr (inr (inr (inr (inr (inr (inr (inl refl)))))))))) refl refl refl (λ r s. refl) (λ x v. refl) (λ x v. refl)
+cancel_ruled = ruled_by_ids cancel_form _ 1 2 (inr (inr (inr (inr (inr (inr (inr (inr (inr (inl refl))))))))))
+    (inr (inr (inr (inr (inr (inr (inr (inr (inr (inl refl)))))))))) refl refl refl (λ r s. refl) (λ x v. refl) (λ x v. refl)
 
 -- ---- all of them
 

@@ -40,11 +40,13 @@ pub table_stored : {under : Schema} {R K : Type 0} (f : Form R K) (facts : Facts
     → AllByRecursion (IsStoredAs f) rows
 table_stored {R = R} f facts rows spelled held fit =
     let within = λ (x : R). IsTrue (f.within x) in
-    let each = has_all within (map f.row_in rows) (λ x here. all_has within x (in_order f rows) fit (has_ordered f.before f.key facts.order (map f.row_in rows) (plain_apart f facts rows held) x here)) in
+    let each = has_all within (map f.row_in rows)
+    (λ x here. all_has within x (in_order f rows) fit (has_ordered f.before f.key facts.order (map f.row_in rows) (plain_apart f facts rows held) x here)) in
     all_both (IsRowOf f) (λ r. within (f.row_in r)) (IsStoredAs f) (λ r is fits. row_stored f r spelled is fits) rows held.whole (all_from_map within f.row_in rows each)
 
 -- where all rows have one key, and the row that stands for none isn't within the limits, there is one
-pub meta_stored : (f : Form MetaRow ℕ) (rows : List Row) → IsSpelled f → ((x y : MetaRow) → f.key x ≡ f.key y) → ¬ IsTrue (f.within (first_meta [])) → IsHeld f rows → IsTrue (f.within (first_meta (in_order f rows)))
+pub meta_stored : (f : Form MetaRow ℕ) (rows : List Row) → IsSpelled f → ((x y : MetaRow) → f.key x ≡ f.key y)
+    → ¬ IsTrue (f.within (first_meta [])) → IsHeld f rows → IsTrue (f.within (first_meta (in_order f rows)))
     → AllByRecursion (IsStoredAs f) rows × (length rows ≡ 1)
 meta_stored f [] spelled alike none held fits = absurd (none fits)
 meta_stored f (r ∷ []) spelled alike none held fits = ((row_stored f r spelled held.whole.0 fits, tt), refl)

@@ -1,5 +1,5 @@
 -- The rows of a replica's tables are within the limits.
-use Rattle.std.proofs.Common.{◌≡◌, inl, inr, ℕ, ◌+◌, ◌≤◌, List, [], ◌∷◌, Bool, true, false, not, ◌&&◌, Option, Some, None, IsTrue, refl, sym, ap, subst, ◌∙◌, arith, le-leb}
+use Rattle.std.proofs.Common.{◌≡◌, inl, ℕ, ◌+◌, ◌≤◌, ◌∷◌, Bool, true, false, not, ◌&&◌, Option, Some, None, IsTrue, refl, sym, ap, subst, ◌∙◌, arith, le-leb}
 use Rattle.std.proofs.lemmas.Bool.{and_parts, and_from}
 use Rattle.std.proofs.lemmas.Bool.Decides.{nat_tests}
 use Rattle.mr_model.specs.Texts.{within}
@@ -7,10 +7,12 @@ use Rattle.std.specs.Prelude.{nat_le}
 use Rattle.std.specs.List.{list_all, list_any, slice_get}
 use Rattle.mr_model.specs.Calendar.{is_date}
 use Rattle.mr_model.specs.Slots.{Slot, is_slot}
-use Rattle.mr_model.specs.Writes.{Id, Meeting, Action, Books, Cancels, Write, id_of, same_id, is_server, is_count, is_time, is_id, is_room_name, is_length, is_meeting, is_action, greatest_alternatives, greatest_time, fits_day, choices_of, choices_in}
+use Rattle.mr_model.specs.Writes.{Id, Meeting, Action, Books, Cancels, Write, id_of, same_id, is_server, is_count, is_time, is_id, is_room_name}
+use Rattle.mr_model.specs.Writes.{is_length, is_meeting, is_action, greatest_alternatives, greatest_time, fits_day, choices_of, choices_in}
 use Rattle.mr_model.specs.Replay.{Place, Taken, Logged, Done, Void, slot_at}
 use Rattle.mr_model.specs.Replica.{Replica, IsReplica, clock_of, is_committed, is_dropped}
-use Rattle.mr_model.specs.Tables.{VectorRow, LogRow, CancelledRow, CancelRow, PlaceRow, Booked, Erred, Cancelled, Cancel, as_booking, as_error, as_cancelled, as_cancel, cells_of, booking_place_row, place_row_for, place_row, seq_of, log_row, by_id, kept, tables_of}
+use Rattle.mr_model.specs.Tables.{VectorRow, LogRow, CancelledRow, CancelRow, PlaceRow, Booked, Erred, Cancelled, Cancel, as_booking, as_error, as_cancelled}
+use Rattle.mr_model.specs.Tables.{as_cancel, cells_of, booking_place_row, place_row_for, place_row, seq_of, log_row, by_id, kept, tables_of}
 use Rattle.mr_model.specs.View.{place_of, canceller_of}
 use Rattle.mr_model.specs.Queries.{cancel_id}
 use Rattle.mr_model.specs.Dropped.{Has}
@@ -32,6 +34,7 @@ use Rattle.mr_tables.specs.Cells.{is_cancel_cells}
 use Rattle.mr_rows.specs.RowLimits.{is_commit, is_meta_row, is_vector_row, is_log_row, is_action_cells, is_place_of, is_slot_row, is_booking_row, is_error_row, is_cancelled_row, is_cancel_row}
 use Rattle.mr_rows.specs.TableLimits.{AreWithinLimits}
 use Rattle.mr_rows.proofs.ChoiceTexts.{choices_within}
+use Rattle.mr_model.proofs.Lists.{list_all_at}
 
 -- ---- a write
 
@@ -54,11 +57,6 @@ number_within r w h = within_from 0 999_999_999_999 (seq_of r w) (omega arith) (
 
 -- ---- what became of it
 
-all_at : {A : Type 0} (p : A → Bool) (x : A) (xs : List A) → list_all p xs ≡ true → Has x xs → p x ≡ true
-all_at p x [] e h = absurd h
-all_at p x (y ∷ ys) e (inl s) = ap p s ∙ (and_parts (p y) (list_all p ys) e).0
-all_at p x (y ∷ ys) e (inr h) = all_at p x ys (and_parts (p y) (list_all p ys) e).1 h
-
 abbrev IsSlotOf : Write → Meeting → Slot → Type 0
 IsSlotOf w m s = is_slot_row w.room s.day s.start (s.start + m.length) w.stamp.server w.stamp.n m.title ≡ true
 
@@ -66,7 +64,7 @@ slot_within : (w : Write) (m : Meeting) (s : Slot) → IsWithin w → is_meeting
 slot_within w m s k h g =
     let f = meeting_facts m h in
     let long : is_length m.length ≡ true = grind arith in
-    let fits = and_parts (is_slot s) (fits_day m.length s) (all_at (λ x. is_slot x && fits_day m.length x) s (choices_of m) f.slots g) in
+    let fits = and_parts (is_slot s) (fits_day m.length s) (list_all_at (λ x. is_slot x && fits_day m.length x) s (choices_of m) f.slots g) in
     let day = and_parts (is_date s.day) (nat_le s.start 1439) fits.0 in
     let start : within 0 1439 s.start ≡ true = grind (arith, nat_tests, day.1) in
     let stop : within (s.start + 1) 1440 (s.start + m.length) ≡ true = grind (arith, nat_tests, long, fits.1) in
@@ -79,7 +77,8 @@ PlaceWithin (Erred row) = is_error_row row ≡ true
 PlaceWithin (Cancelled row) = is_slot_row row.room row.day row.start row.stop row.server row.n row.title ≡ true
 PlaceWithin (Cancel row) = is_cancel_row row ≡ true
 
-meeting_within : (w : Write) (m : Meeting) (o : Option Slot) (by : Option Id) (mark : Bool) (seq : ℕ) → IsWithin w → is_commit seq ≡ true → IsSlotOf w m m.wish → ((s : Slot) → o ≡ Some s → IsSlotOf w m s) → PlaceWithin (booking_place_row w m o by mark seq)
+meeting_within : (w : Write) (m : Meeting) (o : Option Slot) (by : Option Id) (mark : Bool) (seq : ℕ) → IsWithin w → is_commit seq ≡ true
+    → IsSlotOf w m m.wish → ((s : Slot) → o ≡ Some s → IsSlotOf w m s) → PlaceWithin (booking_place_row w m o by mark seq)
 meeting_within w m None by mark seq k few wish slots = and_from _ _ (and_from _ _ wish k.time) few
 meeting_within w m (Some s) None mark seq k few wish slots = slots s refl
 meeting_within w m (Some s) (Some c) mark seq k few wish slots = slots s refl
@@ -90,7 +89,8 @@ chosen w m Logged s a e = let f : ◌≡◌ {A = Option Slot} None (Some s) = e 
 chosen w m Done s a e = let f : ◌≡◌ {A = Option Slot} None (Some s) = e in absurd (cc)
 chosen w m Void s a e = let f : ◌≡◌ {A = Option Slot} None (Some s) = e in absurd (cc)
 
-place_within : (w : Write) (a : Action) (p : Place) (by : Option Id) (mark : Bool) (seq : ℕ) → IsWithin w → is_commit seq ≡ true → is_action a ≡ true → w.action ≡ a → PlaceWithin (place_row_for w a p by mark seq)
+place_within : (w : Write) (a : Action) (p : Place) (by : Option Id) (mark : Bool) (seq : ℕ) → IsWithin w
+    → is_commit seq ≡ true → is_action a ≡ true → w.action ≡ a → PlaceWithin (place_row_for w a p by mark seq)
 place_within w (Books m) p by mark seq k few h e =
     meeting_within w m (slot_at w p) by mark seq k few (slot_within w m m.wish k h (inl refl)) (λ s f. slot_within w m s k h (chosen w m p s e f))
 place_within w (Cancels t) p by mark seq k few h e = and_from _ _ (and_from _ _ (and_from _ _ (and_from _ _ (and_from _ _ k.server k.count) k.room) h) k.time) few
@@ -111,7 +111,7 @@ cancelled_within r row h g =
     let (w, a, e) = known_of as_cancelled r row g in
     let slot = subst PlaceWithin (cancelled_is row (place_row r w) e) (known_within r w h a) in
     let agreed = and_parts (list_all (λ x. list_any (λ c. is_taken_by c x) (tables_of r).cancels) (tables_of r).cancelled) _ (cancels_agree r h) in
-    let (c, i, by) = has_any (λ c. is_taken_by c row) (tables_of r).cancels (all_at (λ x. list_any (λ c. is_taken_by c x) (tables_of r).cancels) row (tables_of r).cancelled agreed.0 g) in
+    let (c, i, by) = has_any (λ c. is_taken_by c row) (tables_of r).cancels (list_all_at (λ x. list_any (λ c. is_taken_by c x) (tables_of r).cancels) row (tables_of r).cancelled agreed.0 g) in
     let limits = cancel_within r c h i in
     let own = and_parts _ (is_room_name c.room) (and_parts _ (is_id c.target) (and_parts _ (is_time c.time) (and_parts _ (is_commit c.seq) limits).0).0).0 in
     and_from _ _ slot (ap is_id (sym (same_id-true (cancel_id c) row.by (its_own c row by))) ∙ own.0)
@@ -138,7 +138,8 @@ log_within r row h g =
     let a = by_id_has r w (filter_has (λ v. not (is_dropped r (id_of v))) w (by_id r.known) i).0 in
     let k = write_within r w h a in
     ap is_log_row e
-    ∙ and_from _ _ (and_from _ _ (and_from _ _ (and_from _ _ (and_from _ _ (and_from _ _ k.server k.count) k.time) k.room) (cells_within w.action k.action)) (place_fits w (place_of r w) (known_went r w h a) k.action)) (number_within r w h)
+    ∙ and_from _ _ (and_from _ _ (and_from _ _ (and_from _ _ (and_from _ _ (and_from _ _ k.server k.count) k.time) k.room) (cells_within w.action k.action))
+    (place_fits w (place_of r w) (known_went r w h a) k.action)) (number_within r w h)
 
 -- ---- numbers
 
@@ -147,8 +148,8 @@ vector_within r row h g =
     let limits = and_parts _ (list_all is_room_name (tables_of r).room) (limits_agree r h) in
     let noted = and_parts _ (list_all (λ (a : Note). is_id a.id && is_time a.time) (notes (tables_of r))) limits.0 in
     let counted = and_parts _ (list_all (λ (v : VectorRow). is_id (record { server = v.server; n = v.count }) && is_time v.last_time) (tables_of r).vector) noted.0 in
-    let own = all_at (λ (v : VectorRow). is_id (record { server = v.server; n = v.count }) && is_time v.last_time) row (tables_of r).vector counted.1 g in
-    let few = all_at (λ (v : VectorRow). nat_le 1 v.count && nat_le v.committed v.count) row (tables_of r).vector (counts_agree r h) g in
+    let own = list_all_at (λ (v : VectorRow). is_id (record { server = v.server; n = v.count }) && is_time v.last_time) row (tables_of r).vector counted.1 g in
+    let few = list_all_at (λ (v : VectorRow). nat_le 1 v.count && nat_le v.committed v.count) row (tables_of r).vector (counts_agree r h) g in
     grind (arith, nat_tests, own, few)
 
 meta_within : (r : Replica) → IsReplica r → is_meta_row (tables_of r).meta ≡ true

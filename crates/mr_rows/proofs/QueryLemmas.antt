@@ -66,19 +66,22 @@ module _ {under : Schema} (sql : List ℕ) (params : Row) (old new : State) (pla
       → IsTrue new.is_open → IsTrue old.is_open × (Known old → (new.now ≡ old.now) × (new.committed ≡ old.committed))
   kept_by items (Ok x) ok err now =
       (shown_open sql params old new (items x) ok, λ known. left_same old new (here known) now (inl (shown_same sql params old new (items x) (plain_here old sql (here known) plain) ok)))
-  kept_by items (Err e) ok err now = (fails_open sql params old new e err now, λ known. left_same old new (here known) now (fails_same sql params old new e (plain_here old sql (here known) plain) err))
+  kept_by items (Err e) ok err now =
+      (fails_open sql params old new e err now, λ known. left_same old new (here known) now (fails_same sql params old new e (plain_here old sql (here known) plain) err))
 
   stays_open : {X : Type 0} (items : X → List Row) (r : Result X Error) → IfOk r (λ x. Shown sql params old new (items x)) → Known old → OnOk r (IsTrue new.is_open)
   stays_open items (Ok x) ok known = (shown_same sql params old new (items x) (plain_here old sql (here known) plain) ok).0.is_open
   stays_open items (Err e) ok known = tt
 
   -- a plain query reads
-  pub asked_where : {X : Type 0} (items : X → List Row) (r : Result X Error) → (HasCleanDisk new → IfOk r (λ x. Shown sql params old new (items x))) → (HasCleanDisk new → IfErr r (FailsToQuery sql params old new))
+  pub asked_where : {X : Type 0} (items : X → List Row) (r : Result X Error)
+      → (HasCleanDisk new → IfOk r (λ x. Shown sql params old new (items x))) → (HasCleanDisk new → IfErr r (FailsToQuery sql params old new))
       → Survives old new (CommitsShowing sql params old) → ReadsWhere Known old new r (λ x. Shown sql params old new (items x))
   asked_where items r ok err survives = (commits_none survives, λ clean now. kept_by items r (ok clean) (err clean) now, λ clean known. (stays_open items r (ok clean) known, ok clean))
 
 module _ (sql : List ℕ) (params : Row) (old new : State) {under : Schema} (plain : IsPlain (understood under sql)) where
-  pub looked_in : {X : Type 0} (items : X → List Row) (r : Result X Error) → (HasCleanDisk new → IfOk r (λ x. Shown sql params old new (items x))) → (HasCleanDisk new → IfErr r (FailsToQuery sql params old new))
+  pub looked_in : {X : Type 0} (items : X → List Row) (r : Result X Error)
+      → (HasCleanDisk new → IfOk r (λ x. Shown sql params old new (items x))) → (HasCleanDisk new → IfErr r (FailsToQuery sql params old new))
       → Survives old new (CommitsShowing sql params old) → LooksIn under old new r (λ x. Shown sql params old new (items x))
   looked_in items r ok err survives = asked_where sql params old new plain (IsPlacedIn under) (λ here. here) items r ok err survives
 
@@ -101,7 +104,8 @@ module _ (Known : State → Type 0) where
   pub told_where : {X : Type 0} (old new : State) (r : Result X Error) (P Q : X → Type 0) → (Known old → (x : X) → P x → Q x) → ReadsWhere Known old new r P → ReadsWhere Known old new r Q
   told_where old new r P Q way h = (h.0, h.1, λ clean known. let told = h.2 clean known in (told.0, told_so r P Q (way known) told.1))
 
-  pub made_where : {X Y : Type 0} (old new : State) (x : X) (P : X → Type 0) (r : Result Y Error) (Q : Y → Type 0) → (Known old → P x → IfOk r Q) → ReadsWhere Known old new (Ok x) P → ReadsWhere Known old new r Q
+  pub made_where : {X Y : Type 0} (old new : State) (x : X) (P : X → Type 0) (r : Result Y Error) (Q : Y → Type 0)
+      → (Known old → P x → IfOk r Q) → ReadsWhere Known old new (Ok x) P → ReadsWhere Known old new r Q
   made_where old new x P (Ok y) Q way h = (h.0, h.1, λ clean known. let told = h.2 clean known in (told.0, way known told.1))
   made_where old new x P (Err e) Q way h = (h.0, h.1, λ clean known. (tt, tt))
 
@@ -126,7 +130,7 @@ module _ (Known : State → Type 0) where
             (last.0, told_so r (Q b.now) R (λ y h. way known y told.1 (subst (λ db. Q db y) same.0 h)) last.1),
       )
 
-still_kept : (a b : State) → IsKept a → (b.now ≡ a.now) × (b.committed ≡ a.committed) → IsKept b
+pub still_kept : (a b : State) → IsKept a → (b.now ≡ a.now) × (b.committed ≡ a.committed) → IsKept b
 still_kept a b kept same = record { ours = subst IsOurs (sym same.0) kept.ours; settled = same.0 ∙ kept.settled ∙ sym same.1 }
 
 -- of a keeper's database
@@ -166,11 +170,13 @@ survives_itself a P = record {
 
 -- ---- looks, one after another
 
-pub looks_so : {X : Type 0} {under : Schema} (old new : State) (r : Result X Error) (P Q : X → Type 0) → (IsPlacedIn under old → (x : X) → P x → Q x) → LooksIn under old new r P → LooksIn under old new r Q
+pub looks_so : {X : Type 0} {under : Schema} (old new : State) (r : Result X Error) (P Q : X → Type 0)
+    → (IsPlacedIn under old → (x : X) → P x → Q x) → LooksIn under old new r P → LooksIn under old new r Q
 looks_so {X} {under} = told_where (IsPlacedIn under)
 
 -- what is made of the answer
-pub looks_made : {X Y : Type 0} {under : Schema} (old new : State) (x : X) (P : X → Type 0) (r : Result Y Error) (Q : Y → Type 0) → (IsPlacedIn under old → P x → IfOk r Q) → LooksIn under old new (Ok x) P → LooksIn under old new r Q
+pub looks_made : {X Y : Type 0} {under : Schema} (old new : State) (x : X) (P : X → Type 0) (r : Result Y Error) (Q : Y → Type 0)
+    → (IsPlacedIn under old → P x → IfOk r Q) → LooksIn under old new (Ok x) P → LooksIn under old new r Q
 looks_made {X} {Y} {under} = made_where (IsPlacedIn under)
 
 -- a second look finds what the first found

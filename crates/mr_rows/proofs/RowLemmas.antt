@@ -1,5 +1,5 @@
 -- What removing by rowid and putting at a fresh rowid make of the rows of a table.
-use Rattle.std.proofs.Common.{◌≡◌, ℤ, pos, List, [], ◌∷◌, ◌++◌, filter, fold, Bool, true, false, not, ◌&&◌, if◌then◌else◌, IsTrue, refl, sym, ap, subst, ◌∙◌, arith, Ordering, Less, Equal}
+use Rattle.std.proofs.Common.{◌≡◌, ℤ, pos, List, [], ◌∷◌, ◌++◌, filter, fold, Bool, true, false, not, ◌&&◌, if◌then◌else◌, IsTrue, refl, sym, ap, subst, ◌∙◌, arith, Less, Equal}
 use Rattle.std.proofs.lemmas.Int.{ints}
 use Rattle.std.specs.Prelude.{◌||◌, ◌<ℤ◌, ◌+ℤ◌}
 use Rattle.std.specs.List.{AllByRecursion, list_any}
@@ -21,6 +21,7 @@ use Rattle.sqlite_rules.proofs.TableLemmas.{int_is}
 use Rattle.sqlite_rules.proofs.PlaceLemmas.{Tied, tied_same}
 use Rattle.mr_model.proofs.MembersAlike.{bool_same}
 use Rattle.mr_rows.specs.Shelf.{IsShelf}
+use Rattle.mr_replay.proofs.IdKeys.{is_eq-Equal}
 
 -- a test that all pass
 pub filter_all_true : {X : Type 0} (xs : List X) → filter (λ _. true) xs ≡ xs
@@ -39,10 +40,8 @@ without_is rows [] = sym (filter_all_true rows)
 without_is rows (id ∷ gone) =
     without_is (without_rowid id rows) gone
     ∙ filter_both (λ r. not (list_any (λ i. has_rowid i r) gone)) (λ r. not (has_rowid id r)) rows
-    ∙ filter_same _ _ rows (all_of _ (λ r. elim (has_rowid id r) as (λ b. (not b && not (list_any (λ i. has_rowid i r) gone)) ≡ not (b || list_any (λ i. has_rowid i r) gone)) [ true ↦ refl | false ↦ refl ]) rows)
-
-equal_is : (o : Ordering) → is_eq o ≡ true → o ≡ Equal
-equal_is o h = grind arith
+    ∙ filter_same _ _ rows
+    (all_of _ (λ r. elim (has_rowid id r) as (λ b. (not b && not (list_any (λ i. has_rowid i r) gone)) ≡ not (b || list_any (λ i. has_rowid i r) gone)) [ true ↦ refl | false ↦ refl ]) rows)
 
 -- Of the rows of a table those go whose rowids are those of rows that were found: just the ones that pass the test.
 pub removed : (rows found : List Row) (test : Row → Bool) → IsShelf rows
@@ -60,7 +59,7 @@ removed rows found test shelf sound complete = without_is rows (ids_of found) �
         let x = has_mapped (λ y. id_in (rowid y)) found it.0 it.1 in
         let other = sound x.0 x.1 in
         let is : rowid other.0 ≡ Int it.0 = whole other.0 other.1 ∙ ap Int (sym (x.2 ∙ other.3)) in
-        let tie : Tied r other.0 = subst (λ v. value_cmp (rowid r) v ≡ Equal) (sym is) (equal_is _ it.2) in
+        let tie : Tied r other.0 = subst (λ v. value_cmp (rowid r) v ≡ Equal) (sym is) (is_eq-Equal _ it.2) in
         subst (λ x. test x ≡ true) (sym (tied_same rows r other.0 shelf.rise here other.1 tie)) other.2
 
     back : (r : Row) → Has rows r → test r ≡ true → list_any (λ id. has_rowid id r) (ids_of found) ≡ true

@@ -87,7 +87,8 @@ module _ {R K : Type 0} (f : Form R K) (show_as : (r : Row) → f.row_in (Null �
 
 module _ {R K : Type 0} (f : Form R K) (o : IsOrder K f.before) where
   -- a table that is held, as a query shows it
-  pub shown_rows : (show : Row → Row) (stored shown : List Row) → ((r : Row) → f.row_in (Null ∷ show r) ≡ f.row_in r) → IsHeld f stored → IsPermutation (map show stored) shown → IsPermutation (in_order f stored) (map (λ row. f.row_in (Null ∷ row)) shown)
+  pub shown_rows : (show : Row → Row) (stored shown : List Row) → ((r : Row) → f.row_in (Null ∷ show r) ≡ f.row_in r) → IsHeld f stored
+      → IsPermutation (map show stored) shown → IsPermutation (in_order f stored) (map (λ row. f.row_in (Null ∷ row)) shown)
   shown_rows show stored shown same held moved =
       IsPermutation-trans _ _ _ (IsPermutation-sym _ _ (ordered_same f.before f.key o (map f.row_in stored) (keys_apart f stored held)))
       (subst (λ xs. IsPermutation xs (map (λ row. f.row_in (Null ∷ row)) shown)) (twice stored) (IsPermutation-map (λ row. f.row_in (Null ∷ row)) _ shown moved))

@@ -17,7 +17,8 @@ read_behind f c of made v r = made.read (v ∷ r) ∙ ap (λ cells. of (c.value_
 -- what is read of the columns that a query shows is read of the stored row
 pub shown_as : {R K V : Type 0} (f : Form R K) (c : Columns V) (of : V → R) → IsMade f c of → (r : Row) → f.row_in (Null ∷ columns_from 1 (length f.table.columns) r) ≡ f.row_in r
 shown_as f c of made r =
-    let same : columns_from 0 c.width (columns_from 1 c.width r) ≡ columns_from 1 c.width r = ap (λ n. columns_from 0 n (columns_from 1 c.width r)) (sym (length_columns 1 c.width r)) ∙ own_columns (columns_from 1 c.width r) in
+    let same : columns_from 0 c.width (columns_from 1 c.width r) ≡ columns_from 1 c.width r =
+    ap (λ n. columns_from 0 n (columns_from 1 c.width r)) (sym (length_columns 1 c.width r)) ∙ own_columns (columns_from 1 c.width r) in
     ap (λ n. f.row_in (Null ∷ columns_from 1 n r)) made.wide ∙ read_behind f c of made Null (columns_from 1 c.width r) ∙ ap (λ cells. of (c.value_in cells)) same ∙ sym (made.read r)
 
 -- a row is read back off the cells that are put of it

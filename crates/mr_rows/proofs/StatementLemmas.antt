@@ -49,7 +49,8 @@ under_two P ours first under (inr is) = subst P (sym is) first
 module _ {S : Type 0} (g : store.Ghosts S) {R K : Type 0} (f : Form R K) (old new : Held S) (text : List ℕ) (r : Result ℕ Error) where
   -- a statement with the row's cells as parameters, run inside a transaction
   pub puts_row : (Stands : Schema → Type 0) (x : R) → ((under : Schema) → Stands under → Puts under f text) → ((id : ℤ) → f.row_in (Int id ∷ f.cells x) ≡ x)
-      → (HasCleanDisk (state g new) → IsTrue old.in_transaction → ExecutesInside 0 text (f.cells x) (state g old) (state g new) r) → (old.in_transaction ≡ false → new ≡ old) → PutsRow Stands f x (state g old) (state g new) r
+      → (HasCleanDisk (state g new) → IsTrue old.in_transaction → ExecutesInside 0 text (f.cells x) (state g old) (state g new) r)
+      → (old.in_transaction ≡ false → new ≡ old) → PutsRow Stands f x (state g old) (state g new) r
   puts_row Stands x can back ran after = (
     λ under stands clean within schema held. let it = can under stands in puts f it.facts text (state g old) (state g new) x r it.means back schema held (ran clean within),
     λ clean. keeps_any g old new text (f.cells x) r (ran clean) after,
@@ -65,8 +66,10 @@ module _ {S : Type 0} (g : store.Ghosts S) {R K : Type 0} (f : Form R K) (old ne
   )
 
   -- one with an id
-  pub takes_id : (id_of : R → Id) (takes : Takes f id_of text) (id : Id) → (HasCleanDisk (state g new) → IsTrue old.in_transaction → ExecutesInside 0 text (takes.facts.key_cells (takes.key_of id)) (state g old) (state g new) r)
+  pub takes_id : (id_of : R → Id) (takes : Takes f id_of text) (id : Id)
+      → (HasCleanDisk (state g new) → IsTrue old.in_transaction → ExecutesInside 0 text (takes.facts.key_cells (takes.key_of id)) (state g old) (state g new) r)
       → (old.in_transaction ≡ false → new ≡ old) → TakesRow our_schema f id_of id (state g old) (state g new) r
   takes_id id_of takes id ran after =
-      subst (λ (keeps : R → Bool). TurnsInto our_schema f (filter keeps) (state g old) (state g new) r × (HasCleanDisk (state g new) → KeepsCommit (state g old) (state g new))) (λ i x. not (takes.finds id x i))
+      subst (λ (keeps : R → Bool). TurnsInto our_schema f (filter keeps) (state g old) (state g new) r × (HasCleanDisk (state g new) → KeepsCommit (state g old) (state g new)))
+      (λ i x. not (takes.finds id x i))
       (takes_row takes.facts (takes.key_of id) takes.means ran after)

@@ -19,8 +19,9 @@ use Rattle.mr_tables.specs.Change.{put, put_all, rows_without}
 use Rattle.mr_rows.specs.Schema.{our_schema, IsOfTwo}
 use Rattle.mr_rows.specs.Form.{Form, meta_form, room_form, vector_form, log_form, booking_form, error_form, cancelled_form, cancel_form}
 use Rattle.mr_rows.specs.Database.{IsHeld, AreHeld, IsOurs, IsTablesStep, IsAskedOfOurs, MakesTables, IsChangeUnderWay, first_meta, in_order, tables_in}
-use Rattle.mr_rows.specs.TableSteps.{overlaid, Turns, TurnsInto, PutsRow, TakesRow, IsTableOf, rows_put, rows_taken}
+use Rattle.mr_rows.specs.TableSteps.{trees_with, Turns, TurnsInto, PutsRow, TakesRow, IsTableOf, rows_put, rows_taken}
 use Rattle.mr_rows.specs.ChangeParts.{put_meta}
+use Rattle.mr_tables.proofs.Putting.{without_none}
 
 -- ---- the tables lie in trees that are no indexes
 
@@ -101,7 +102,8 @@ held_same a b same held = record {
 }
 
 -- where one table turns, the others stay
-pub steps : {R K : Type 0} (f : Form R K) (rows_of : Tables → List R) (with_rows : List R → Tables → Tables) → IsTableOf AreHeld tables_in f rows_of with_rows → (old new : State) (xs : List R) → IsOurs old.now → Turns our_schema f old new xs
+pub steps : {R K : Type 0} (f : Form R K) (rows_of : Tables → List R) (with_rows : List R → Tables → Tables)
+    → IsTableOf AreHeld tables_in f rows_of with_rows → (old new : State) (xs : List R) → IsOurs old.now → Turns our_schema f old new xs
     → IsTablesStep old new (with_rows xs (tables_in old.now.trees))
 steps f rows_of with_rows is old new xs ours turns = record {
   ours = record { schema = turns.schema; held = held_same _ _ turns.trees (is.held old.now.trees turns.rows ours.held turns.held) };
@@ -111,18 +113,21 @@ steps f rows_of with_rows is old new xs ours turns = record {
 }
 
 -- so a row that is put into one is put into all, and one that is taken from one is taken from all
-turned_all : {R K X : Type 0} (f : Form R K) (rows_of : Tables → List R) (with_rows : List R → Tables → Tables) → IsTableOf AreHeld tables_in f rows_of with_rows → (turn : List R → List R) (old new : State) (r : Result X Error)
+turned_all : {R K X : Type 0} (f : Form R K) (rows_of : Tables → List R) (with_rows : List R → Tables → Tables)
+    → IsTableOf AreHeld tables_in f rows_of with_rows → (turn : List R → List R) (old new : State) (r : Result X Error)
     → TurnsInto our_schema f turn old new r → IsAskedOfOurs old new → OnOk r (IsTablesStep old new (with_rows (turn (rows_of (tables_in old.now.trees))) (tables_in old.now.trees)))
 turned_all f rows_of with_rows is turn old new r turns asked =
     on_ok_weaker r
     (λ done. subst (λ rows. IsTablesStep old new (with_rows (turn rows) (tables_in old.now.trees))) (sym (is.read old.now.trees)) (steps f rows_of with_rows is old new _ asked.2 done))
     (turns asked.0 asked.1 asked.2.schema (is.was old.now.trees asked.2.held))
 
-pub makes_put : {R K X : Type 0} (f : Form R K) (rows_of : Tables → List R) (with_rows : List R → Tables → Tables) → IsTableOf AreHeld tables_in f rows_of with_rows → (Stands : Schema → Type 0) → Stands our_schema → (old new : State) (x : R) (r : Result X Error)
+pub makes_put : {R K X : Type 0} (f : Form R K) (rows_of : Tables → List R) (with_rows : List R → Tables → Tables)
+    → IsTableOf AreHeld tables_in f rows_of with_rows → (Stands : Schema → Type 0) → Stands our_schema → (old new : State) (x : R) (r : Result X Error)
     → PutsRow Stands f x old new r → MakesTables old new (rows_put f rows_of with_rows (x ∷ []) (tables_in old.now.trees)) r
 makes_put f rows_of with_rows is Stands stands old new x r puts = (turned_all f rows_of with_rows is (put f.before f.key x) old new r (puts.0 our_schema stands), puts.1)
 
-pub makes_taken : {R K X : Type 0} (f : Form R K) (rows_of : Tables → List R) (with_rows : List R → Tables → Tables) → IsTableOf AreHeld tables_in f rows_of with_rows → (id_of : R → Id) (old new : State) (id : Id) (r : Result X Error)
+pub makes_taken : {R K X : Type 0} (f : Form R K) (rows_of : Tables → List R) (with_rows : List R → Tables → Tables)
+    → IsTableOf AreHeld tables_in f rows_of with_rows → (id_of : R → Id) (old new : State) (id : Id) (r : Result X Error)
     → TakesRow our_schema f id_of id old new r → MakesTables old new (rows_taken id_of rows_of with_rows (id ∷ []) (tables_in old.now.trees)) r
 makes_taken f rows_of with_rows is id_of old new id r takes = (turned_all f rows_of with_rows is (rows_without id_of (id ∷ [])) old new r takes.0, takes.1)
 
@@ -136,8 +141,22 @@ unfolding tables_in
 meta_step old new xs ours turns =
     let was = ours.held in
     record {
-      ours = record { schema = turns.schema; held = held_same _ (overlaid old.now.trees 0 turns.rows) turns.trees (record { meta = turns.held; room = was.room; vector = was.vector; log = was.log; booking = was.booking; errorlog = was.errorlog; cancelled = was.cancelled; cancels = was.cancels; no_write_log = was.no_write_log; no_undo = was.no_undo }) };
-      tables_are = tables_same _ (overlaid old.now.trees 0 turns.rows) turns.trees ∙ ap (λ ys. record (tables_in old.now.trees) { meta = first_meta ys }) turns.rows_are;
+      ours = record {
+        schema = turns.schema;
+        held = held_same _ (trees_with old.now.trees 0 turns.rows) turns.trees (record {
+          meta = turns.held;
+          room = was.room;
+          vector = was.vector;
+          log = was.log;
+          booking = was.booking;
+          errorlog = was.errorlog;
+          cancelled = was.cancelled;
+          cancels = was.cancels;
+          no_write_log = was.no_write_log;
+          no_undo = was.no_undo;
+        });
+      };
+      tables_are = tables_same _ (trees_with old.now.trees 0 turns.rows) turns.trees ∙ ap (λ ys. record (tables_in old.now.trees) { meta = first_meta ys }) turns.rows_are;
       committed = turns.committed;
       within = turns.within;
     }
@@ -189,11 +208,6 @@ without_more key id ids (row ∷ rows) = go (same_id (key row) id) (without_more
     go true ih = ih
     go false ih = ap (λ more. cond (not (is_among (key row) ids)) (row ∷ more) more) ih
 
--- none taken away
-without_none : {R : Type 0} (key : R → Id) (rows : List R) → rows_without key [] rows ≡ rows
-without_none key [] = refl
-without_none key (row ∷ rows) = ap (λ more. row ∷ more) (without_none key rows)
-
 module _ {T R K : Type 0} {Held : Trees → Type 0} {seen : Trees → T} (f : Form R K) (rows_of : T → List R) (with_rows : List R → T → T) (is : IsTableOf Held seen f rows_of with_rows) where
   turned_twice : (turn : List R → List R) (ys : List R) (t : T) → with_rows (turn ys) t ≡ with_rows (turn (rows_of (with_rows ys t))) (with_rows ys t)
   turned_twice turn ys t = sym (ap (λ rows. with_rows (turn rows) (with_rows ys t)) (is.back ys t) ∙ is.again ys (turn ys) t)
@@ -201,7 +215,8 @@ module _ {T R K : Type 0} {Held : Trees → Type 0} {seen : Trees → T} (f : Fo
   pub put_more : (x : R) (xs : List R) (t : T) → rows_put f rows_of with_rows (x ∷ xs) t ≡ rows_put f rows_of with_rows xs (rows_put f rows_of with_rows (x ∷ []) t)
   put_more x xs t = turned_twice (put_all f.before f.key xs) (put f.before f.key x (rows_of t)) t
 
-  pub taken_more : (id_of : R → Id) (id : Id) (ids : List Id) (t : T) → rows_taken id_of rows_of with_rows (id ∷ ids) t ≡ rows_taken id_of rows_of with_rows ids (rows_taken id_of rows_of with_rows (id ∷ []) t)
+  pub taken_more : (id_of : R → Id) (id : Id) (ids : List Id) (t : T)
+      → rows_taken id_of rows_of with_rows (id ∷ ids) t ≡ rows_taken id_of rows_of with_rows ids (rows_taken id_of rows_of with_rows (id ∷ []) t)
   taken_more id_of id ids t = ap (λ rows. with_rows rows t) (without_more id_of id ids (rows_of t)) ∙ turned_twice (rows_without id_of ids) (rows_without id_of (id ∷ []) (rows_of t)) t
 
   pub taken_none : (id_of : R → Id) (t : T) → rows_taken id_of rows_of with_rows [] t ≡ t

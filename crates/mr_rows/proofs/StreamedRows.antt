@@ -71,7 +71,8 @@ module _ {S : Type 0} (g : store.Ghosts S) (sql : List ℕ) (params : Row) (Q : 
   one_on old new None plain far still on = (far.1, shown_from sql params first (state g old) (state g new) far.1 plain far.0 (on sql params far.1 far.2), far.3)
 
 module _ {S : Type 0} (g : store.Ghosts S) (sql : List ℕ) (params : Row) {under : Schema} (plain : IsPlain (understood under sql)) where
-  pub begun : (Q : List Row → Type 0) (old new : Held S) → (HasCleanDisk (state g new) → HasBegun g sql params old new) → Survives (state g old) (state g new) (CommitsShowing sql params (state g old)) → Q []
+  pub begun : (Q : List Row → Type 0) (old new : Held S) → (HasCleanDisk (state g new) → HasBegun g sql params old new)
+      → Survives (state g old) (state g new) (CommitsShowing sql params (state g old)) → Q []
       → LooksIn {X = Unit {0}} under (state g old) (state g new) (Ok tt) (λ _. SoFar g sql params Q (state g old) new)
   begun Q old new began survives none = (
     commits_none sql params (state g old) (state g new) plain (IsPlacedIn under) (λ here. here) survives,
@@ -117,11 +118,14 @@ module _ {S : Type 0} (g : store.Ghosts S) (sql : List ℕ) (params : Row) {unde
       → (HasCleanDisk (state g new) → IfErr r (λ e. Fails (state g old) (state g new) ⊥ e ⊎ IsUnchanged (state g old) (state g new))) → Survives (state g old) (state g new) (λ _. ⊥)
       → LooksIn under first (state g new) r (λ _. OneOn g sql params Q first new row)
   advanced Q first old new r row far on still kept survives =
-      looks_then {X = Unit {0}} {Y = Unit {0}} first (state g old) (state g new) (tt {0}) (λ _. SoFar g sql params Q first old) r (λ _ _. IsUnchanged (state g old) (state g new) × Advances g old new row)
-      (λ _. OneOn g sql params Q first new row) (λ here x far moved. one_on g sql params Q first old new row (plain_here first sql here plain) far moved.0 moved.1) far (moved old new r row on still kept survives)
+      looks_then {X = Unit {0}} {Y = Unit {0}} first (state g old) (state g new) (tt {0})
+      (λ _. SoFar g sql params Q first old) r (λ _ _. IsUnchanged (state g old) (state g new) × Advances g old new row)
+      (λ _. OneOn g sql params Q first new row) (λ here x far moved. one_on g sql params Q first old new row (plain_here first sql here plain) far moved.0 moved.1) far
+      (moved old new r row on still kept survives)
 
   -- no row is left
-  pub none_left : (Q : List Row → Type 0) (first : State) (new : Held S) (row : Option Row) → None ≡ row → LooksIn {X = Unit {0}} under first (state g new) (Ok tt) (λ _. OneOn g sql params Q first new row)
+  pub none_left : (Q : List Row → Type 0) (first : State) (new : Held S) (row : Option Row) → None ≡ row
+      → LooksIn {X = Unit {0}} under first (state g new) (Ok tt) (λ _. OneOn g sql params Q first new row)
       → LooksIn {X = Unit {0}} under first (state g new) (Ok tt) (λ _. IsShownSo Q sql params first (state g new))
   none_left Q first new row is =
       looks_so {X = Unit {0}} first (state g new) (Ok (tt {0})) (λ _. OneOn g sql params Q first new row) (λ _. IsShownSo Q sql params first (state g new))
@@ -129,7 +133,8 @@ module _ {S : Type 0} (g : store.Ghosts S) (sql : List ℕ) (params : Row) {unde
 
   -- what is so of the rows before one is made so of it too
   pub one_done : (Q Next : List Row → Type 0) (first : State) (new : Held S) (row : Option Row) (given : Row) → Some given ≡ row → ((rows : List Row) → Q rows → Next (rows ++ given ∷ []))
-      → LooksIn {X = Unit {0}} under first (state g new) (Ok tt) (λ _. OneOn g sql params Q first new row) → LooksIn {X = Unit {0}} under first (state g new) (Ok tt) (λ _. SoFar g sql params Next first new)
+      → LooksIn {X = Unit {0}} under first (state g new) (Ok tt) (λ _. OneOn g sql params Q first new row)
+      → LooksIn {X = Unit {0}} under first (state g new) (Ok tt) (λ _. SoFar g sql params Next first new)
   one_done Q Next first new row given is more =
       looks_so {X = Unit {0}} first (state g new) (Ok (tt {0})) (λ _. OneOn g sql params Q first new row) (λ _. SoFar g sql params Next first new)
       (λ here x one. let it = subst (OneOn g sql params Q first new) (sym is) one in (it.0, it.1 ++ given ∷ [], it.2, more it.1 it.3))

@@ -20,27 +20,33 @@ use Rattle.mr_rows.specs.Facts.{Facts, are_plain}
 -- (under the schema of any number)
 unfoldable pub meta_facts : (number : ℕ) → Facts our_schema (meta_form_of number)
 unfolding first_key
-meta_facts number = facts_by_one (meta_form_of number) number_order 0 (λ k. Int (pos k)) (λ a b. a == b) equal_nat eqb-true eq-eqb refl (λ x v. refl) (λ x. refl) (λ x. refl) (λ x id r. refl) (λ db. refl) refl (λ _ _. refl)
+meta_facts number = facts_by_one (meta_form_of number) number_order 0 (λ k. Int (pos k)) (λ a b. a == b) equal_nat eqb-true eq-eqb refl
+    (λ x v. refl) (λ x. refl) (λ x. refl) (λ x id r. refl) (λ db. refl) refl (λ _ _. refl)
 
 unfoldable pub meta_facts_first : (number : ℕ) → Facts first_schema (meta_form_of number)
 unfolding first_key
-meta_facts_first number = facts_by_one (meta_form_of number) number_order 0 (λ k. Int (pos k)) (λ a b. a == b) equal_nat eqb-true eq-eqb refl (λ x v. refl) (λ x. refl) (λ x. refl) (λ x id r. refl) (λ db. refl) refl (λ _ _. refl)
+meta_facts_first number = facts_by_one (meta_form_of number) number_order 0 (λ k. Int (pos k))
+    (λ a b. a == b) equal_nat eqb-true eq-eqb refl (λ x v. refl) (λ x. refl) (λ x. refl) (λ x id r. refl) (λ db. refl) refl (λ _ _. refl)
 
 unfoldable pub room_facts : Facts our_schema room_form
 unfolding first_key
-room_facts = facts_by_one room_form name_order 1 Text bytes_eq equal_text (λ a b. (bytes_eq-Decides a b).0) (λ a b. (bytes_eq-Decides a b).1) refl (λ x v. refl) (λ x. refl) (λ x. refl) (λ x id r. refl) (λ db. refl) refl (λ _ _. refl)
+room_facts = facts_by_one room_form name_order 1 Text bytes_eq equal_text (λ a b. (bytes_eq-Decides a b).0)
+    (λ a b. (bytes_eq-Decides a b).1) refl (λ x v. refl) (λ x. refl) (λ x. refl) (λ x id r. refl) (λ db. refl) refl (λ _ _. refl)
 
 unfoldable pub room_facts_first : Facts first_schema room_form
 unfolding first_key
-room_facts_first = facts_by_one room_form name_order 1 Text bytes_eq equal_text (λ a b. (bytes_eq-Decides a b).0) (λ a b. (bytes_eq-Decides a b).1) refl (λ x v. refl) (λ x. refl) (λ x. refl) (λ x id r. refl) (λ db. refl) refl (λ _ _. refl)
+room_facts_first = facts_by_one room_form name_order 1 Text bytes_eq equal_text (λ a b. (bytes_eq-Decides a b).0)
+    (λ a b. (bytes_eq-Decides a b).1) refl (λ x v. refl) (λ x. refl) (λ x. refl) (λ x id r. refl) (λ db. refl) refl (λ _ _. refl)
 
 unfoldable pub vector_facts : Facts our_schema vector_form
 unfolding first_key
-vector_facts = facts_by_one vector_form number_order 2 (λ k. Int (pos k)) (λ a b. a == b) equal_nat eqb-true eq-eqb refl (λ x v. refl) (λ x. refl) (λ x. refl) (λ x id r. refl) (λ db. refl) refl (λ _ _. refl)
+vector_facts = facts_by_one vector_form number_order 2 (λ k. Int (pos k)) (λ a b. a == b) equal_nat eqb-true eq-eqb refl
+    (λ x v. refl) (λ x. refl) (λ x. refl) (λ x id r. refl) (λ db. refl) refl (λ _ _. refl)
 
 unfoldable pub vector_facts_first : Facts first_schema vector_form
 unfolding first_key
-vector_facts_first = facts_by_one vector_form number_order 2 (λ k. Int (pos k)) (λ a b. a == b) equal_nat eqb-true eq-eqb refl (λ x v. refl) (λ x. refl) (λ x. refl) (λ x id r. refl) (λ db. refl) refl (λ _ _. refl)
+vector_facts_first = facts_by_one vector_form number_order 2 (λ k. Int (pos k)) (λ a b. a == b) equal_nat eqb-true eq-eqb refl
+    (λ x v. refl) (λ x. refl) (λ x. refl) (λ x id r. refl) (λ db. refl) refl (λ _ _. refl)
 
 -- ---- tables with the key server, n
 
@@ -61,10 +67,12 @@ unfolding first_key
 error_facts_first = facts_by_id error_form id_order 6 5 6 refl (λ x v. refl) (λ x v. refl) (λ x. refl) (λ x. refl) (λ x id r. refl) (λ db. refl) refl (λ _ _. refl)
 
 -- (a row of the log has cells by its action)
-pub log_given : (w : LogRow) → value_rows (stamped log_form.table (log_form.cells w)) (width_of log_form.table) (length (values_of log_form.table) / width_of log_form.table) (values_of log_form.table) ≡ (Null ∷ log_form.cells w) ∷ []
+pub log_given : (w : LogRow) → value_rows (stamped log_form.table (log_form.cells w)) (width_of log_form.table) (length (values_of log_form.table) / width_of log_form.table) (values_of log_form.table)
+    ≡ (Null ∷ log_form.cells w) ∷ []
 log_given w = go w.action
   where
-    go : (a : ActionCells) → let x : LogRow = record w { action = a } in value_rows (stamped log_form.table (log_form.cells x)) 13 (length (values_of log_form.table) / 13) (values_of log_form.table) ≡ (Null ∷ log_form.cells x) ∷ []
+    go : (a : ActionCells) → let x : LogRow = record w { action = a } in
+        value_rows (stamped log_form.table (log_form.cells x)) 13 (length (values_of log_form.table) / 13) (values_of log_form.table) ≡ (Null ∷ log_form.cells x) ∷ []
     go (OfMeeting m) = refl
     go (OfCancel t) = refl
 

@@ -1,5 +1,6 @@
 -- What the statements on one table make of its rows, whichever table it is.
-use Rattle.std.proofs.Common.{◌≡◌, ℕ, ℤ, pos, ◌&&◌, ◌||◌, List, [], ◌∷◌, ◌++◌, map, filter, Bool, true, false, not, ◌==◌, cond, None, Some, Ok, Err, Result, Option, OnOk, refl, sym, ap, subst, ◌∙◌, eqb-true, arith}
+use Rattle.std.proofs.Common.{◌≡◌, ℕ, ℤ, pos, ◌&&◌, ◌||◌, List, [], ◌∷◌, ◌++◌, map, filter, Bool, true, false, not, ◌==◌}
+use Rattle.std.proofs.Common.{cond, None, Some, Ok, Err, Result, Option, OnOk, refl, sym, ap, subst, ◌∙◌, eqb-true, arith}
 use Rattle.std.specs.Prelude.{length, slice_get, ◌/◌}
 use Rattle.std.specs.List.{AllByRecursion}
 use Rattle.std.specs.List.Sorted.{IsPermutation}
@@ -42,7 +43,7 @@ use Rattle.mr_tables.specs.TableOrders.{IsOrder}
 use Rattle.mr_rows.specs.Meaning.{passes}
 use Rattle.mr_rows.specs.Form.{Form}
 use Rattle.mr_rows.specs.Database.{IsRowOf, IsHeld, in_order}
-use Rattle.mr_rows.specs.TableSteps.{overlaid, Turns}
+use Rattle.mr_rows.specs.TableSteps.{trees_with, Turns}
 use Rattle.mr_rows.specs.StatementMeaning.{MeansIn, MeansQueryIn, program_of, one_test, id_tests, values_of, width_of}
 use Rattle.mr_rows.proofs.ValueLemmas.{equal_apart, and_true, id_test, among_one, one_among, clash_one, clash_two, cast_null, cast_int, casts_plain, mends_plain}
 use Rattle.mr_rows.proofs.RowLemmas.{shelf_filter, shelf_push, next_above, ascending_push}
@@ -53,10 +54,13 @@ use Rattle.mr_rows.specs.Facts.{Facts, are_plain}
 -- ---- keys
 
 -- of one column, whose cell tells the key
-abbrev pub facts_by_one : {under : Schema} {R K : Type 0} (f : Form R K) (order : IsOrder K f.before) (place : ℕ) (cell : K → Value) (same : K → K → Bool) → ((a b : K) → equal Binary (cell a) (cell b) ≡ same a b)
+abbrev pub facts_by_one : {under : Schema} {R K : Type 0} (f : Form R K) (order : IsOrder K f.before) (place : ℕ) (cell : K → Value) (same : K → K → Bool)
+    → ((a b : K) → equal Binary (cell a) (cell b) ≡ same a b)
     → ((a b : K) → same a b ≡ true → a ≡ b) → ((a b : K) → a ≡ b → same a b ≡ true) → slice_get under.tables place ≡ Some f.table → ((x : R) (v : Value) → column (v ∷ f.cells x) 1 ≡ cell (f.key x))
-    → ((x : R) → value_rows (stamped f.table (f.cells x)) (width_of f.table) (length (values_of f.table) / width_of f.table) (values_of f.table) ≡ (Null ∷ f.cells x) ∷ []) → ((x : R) → are_plain f.table.columns (f.cells x) ≡ true)
-    → ((x : R) (id : ℤ) (r : Row) → conflicts None under.indexes f.table (Int id ∷ f.cells x) r ≡ ((equal Binary (rowid r) (Int id) && true) || ((equal Binary (column r 1) (cell (f.key x)) && true) || false)))
+    → ((x : R) → value_rows (stamped f.table (f.cells x)) (width_of f.table) (length (values_of f.table) / width_of f.table) (values_of f.table) ≡ (Null ∷ f.cells x) ∷ [])
+    → ((x : R) → are_plain f.table.columns (f.cells x) ≡ true)
+    → ((x : R) (id : ℤ) (r : Row) → conflicts None under.indexes f.table (Int id ∷ f.cells x) r
+    ≡ ((equal Binary (rowid r) (Int id) && true) || ((equal Binary (column r 1) (cell (f.key x)) && true) || false)))
     → ((db : Trees) → overlay db [] f.table.tree ≡ db f.table.tree) → f.table.is_counted ≡ false → ((taken news : List Row) → works under Enforced 0 f.table.tree taken news ≡ []) → Facts under f
 facts_by_one f order place cell same equals sound complete stands first given plain clashes alone uncounted free = record {
   order = order;
@@ -81,7 +85,8 @@ facts_by_one f order place cell same equals sound complete stands first given pl
 -- of two columns, which are those of an id
 abbrev pub facts_by_id : {under : Schema} {R : Type 0} (f : Form R Id) (order : IsOrder Id f.before) (place at bt : ℕ) → slice_get under.tables place ≡ Some f.table
     → ((x : R) (v : Value) → column (v ∷ f.cells x) at ≡ Int (pos (f.key x).server)) → ((x : R) (v : Value) → column (v ∷ f.cells x) bt ≡ Int (pos (f.key x).n))
-    → ((x : R) → value_rows (stamped f.table (f.cells x)) (width_of f.table) (length (values_of f.table) / width_of f.table) (values_of f.table) ≡ (Null ∷ f.cells x) ∷ []) → ((x : R) → are_plain f.table.columns (f.cells x) ≡ true)
+    → ((x : R) → value_rows (stamped f.table (f.cells x)) (width_of f.table) (length (values_of f.table) / width_of f.table) (values_of f.table) ≡ (Null ∷ f.cells x) ∷ [])
+    → ((x : R) → are_plain f.table.columns (f.cells x) ≡ true)
     → ((x : R) (id : ℤ) (r : Row) → conflicts None under.indexes f.table (Int id ∷ f.cells x) r
     ≡ ((equal Binary (rowid r) (Int id) && true) || ((equal Binary (column r at) (Int (pos (f.key x).server)) && (equal Binary (column r bt) (Int (pos (f.key x).n)) && true)) || false)))
     → ((db : Trees) → overlay db [] f.table.tree ≡ db f.table.tree) → f.table.is_counted ≡ false → ((taken news : List Row) → works under Enforced 0 f.table.tree taken news ≡ []) → Facts under f
@@ -114,17 +119,20 @@ cast_new : {R K : Type 0} (f : Form R K) (v : Value) (x : R) → cast Integer v 
 cast_new f v x same plain = let cells = casts_plain f.table.columns (f.cells x) plain in λ i. same i ∷ cells i
 
 -- a statement on the table at this place is one on this table
-pub on_table : {under : Schema} (table : Table) (place : ℕ) (limit : Option ℕ) (mode : Mode) (params : Row) (db : Trees) (P : Task → Part (Tally × Database)) (out : _) → slice_get under.tables place ≡ Some table
+pub on_table : {under : Schema} (table : Table) (place : ℕ) (limit : Option ℕ) (mode : Mode) (params : Row) (db : Trees) (P : Task → Part (Tally × Database)) (out : _)
+    → slice_get under.tables place ≡ Some table
     → OnTable limit mode params (record { schema = under; trees = db }) place P out → P (record { limit = limit; keys = mode.keys; schema = under; table = table; params = params }) out
 on_table {under} table place limit mode params db P out stands =
     subst (λ t. AtPlace (λ (table : Table). P (record { limit = limit; keys = mode.keys; schema = under; table = table; params = params })) t out) stands
 
-turned : {under : Schema} (task : Task) (db : Trees) (after : Database) (rows : List Row) → task.schema ≡ under → Leaves task db after rows → (t : ℕ) → IsNoIndex under t → after.trees t ≡ overlaid db task.table.tree rows t
+turned : {under : Schema} (task : Task) (db : Trees) (after : Database) (rows : List Row) → task.schema ≡ under
+    → Leaves task db after rows → (t : ℕ) → IsNoIndex under t → after.trees t ≡ trees_with db task.table.tree rows t
 turned task db after rows ours left t none = go (t == task.table.tree) refl
   where
     go : (b : Bool) → (t == task.table.tree) ≡ b → after.trees t ≡ cond b rows (db t)
     go true e = subst (λ u. after.trees u ≡ rows) (sym (eqb-true t task.table.tree e)) left.table
-    go false e = left.others t (λ same. let own : (t == task.table.tree) ≡ true = subst (λ u. (t == u) ≡ true) same (itself t) in absurd (let never = sym own ∙ e in cc)) (subst (λ s. IsNoIndex s t) (sym ours) none)
+    go false e = left.others t (λ same. let own : (t == task.table.tree) ≡ true = subst (λ u. (t == u) ≡ true) same (itself t) in
+        absurd (let never = sym own ∙ e in cc)) (subst (λ s. IsNoIndex s t) (sym ours) none)
       where
         itself : (n : ℕ) → (n == n) ≡ true
         itself n = grind (arith)
@@ -176,7 +184,8 @@ module _ {under : Schema} {R K : Type 0} (f : Form R K) (facts : Facts under f) 
       let whole = statement_of text (understood under text) in
       let done = subst (λ s. Does old.step_limit (mode_of old) params (record old.now { schema = s }) whole None command (Ok (w.tally, new.now))) schema w.changed in
       let task : Task = record { limit = old.step_limit; keys = Enforced; schema = under; table = f.table; params = params } in
-      let on = on_table f.table facts.place old.step_limit (mode_of old) params old.now.trees (λ task. OnRows task (mode_of old) None command old.now.trees) (Ok (w.tally, new.now)) facts.stands done in
+      let on = on_table f.table facts.place old.step_limit (mode_of old) params old.now.trees
+      (λ task. OnRows task (mode_of old) None command old.now.trees) (Ok (w.tally, new.now)) facts.stands done in
       let left = deletes task (mode_of old) facts.free facts.place facts.key_tests program old.now.trees w.tally new.now refl (facts.alone old.now.trees) held.shelf on in
       let stored = old.now.trees f.table.tree in
       let test = λ (r : Row). not (passes facts.key_tests params r) in
@@ -205,12 +214,15 @@ module _ {under : Schema} {R K : Type 0} (f : Form R K) (facts : Facts under f) 
       let whole = statement_of text (understood under text) in
       let done = subst (λ s. Does old.step_limit (mode_of old) params (record old.now { schema = s }) whole None command (Ok (w.tally, new.now))) schema w.changed in
       let task : Task = record { limit = old.step_limit; keys = Enforced; schema = under; table = f.table; params = params } in
-      let on = on_table f.table facts.place old.step_limit (mode_of old) params old.now.trees (λ task. OnRows task (mode_of old) None command old.now.trees) (Ok (w.tally, new.now)) facts.stands done in
+      let on = on_table f.table facts.place old.step_limit (mode_of old) params old.now.trees
+      (λ task. OnRows task (mode_of old) None command old.now.trees) (Ok (w.tally, new.now)) facts.stands done in
       let stored = old.now.trees f.table.tree in
       let test = λ (r : Row). not (passes facts.key_tests key r) in
       let plain = λ (y : R). facts.has_key (f.key x) y in
-      let left = upserts task (mode_of old) facts.free facts.place (values_of f.table) (width_of f.table) (f.cells x) (passes facts.key_tests key) old.now.trees w.tally new.now facts.uncounted (facts.given x)
-      (ap (cast_row f.table) (ap (λ vs. Null ∷ vs) (mends_plain f.table.key 0 f.table.columns (f.cells x) (facts.plain x))) ∙ cast_new f Null x cast_null (facts.plain x)) (λ id. cast_new f (Int id) x (cast_int id) (facts.plain x)) (facts.clashes x) held.shelf on in
+      let left = upserts task (mode_of old) facts.free facts.place (values_of f.table) (width_of f.table)
+      (f.cells x) (passes facts.key_tests key) old.now.trees w.tally new.now facts.uncounted (facts.given x)
+      (ap (cast_row f.table) (ap (λ vs. Null ∷ vs) (mends_plain f.table.key 0 f.table.columns (f.cells x) (facts.plain x))) ∙ cast_new f Null x cast_null (facts.plain x))
+      (λ id. cast_new f (Int id) x (cast_int id) (facts.plain x)) (facts.clashes x) held.shelf on in
       let others = filter test stored in
       let id = next_rowid stored in
       let less = held-filter test stored held in
@@ -263,7 +275,8 @@ module _ {under : Schema} {R K : Type 0} (f : Form R K) (order : IsOrder K f.bef
       let found = filter (passes tests params) stored in
       let through = IsPermutation-map read _ rows moved in
       let plain_rows = map f.row_in stored in
-      let there = subst (λ xs. IsPermutation xs (map read rows)) (back found (all-filter _ _ stored held.whole) ∙ ap (map told) (kept_through f (passes tests params) plain stored held.whole same)) through in
+      let there = subst (λ xs. IsPermutation xs (map read rows))
+      (back found (all-filter _ _ stored held.whole) ∙ ap (map told) (kept_through f (passes tests params) plain stored held.whole same)) through in
       IsPermutation-trans _ _ _ (IsPermutation-map told _ _ (IsPermutation-sym _ _ (IsPermutation-filter plain _ _ (ordered_same f.before f.key order plain_rows (keys_apart f stored held))))) there
     where
       back : (found : List Row) → AllByRecursion (IsRowOf f) found → map read (map (λ r. eval_all project (params ∷ r ∷ [])) found) ≡ map told (map f.row_in found)
@@ -277,7 +290,8 @@ module _ {under : Schema} {R K : Type 0} (f : Form R K) (order : IsOrder K f.bef
       → old.now.schema ≡ under → IsHeld f (old.now.trees f.table.tree) → Shown text params old new rows
       → IsPermutation (filter plain (in_order f (old.now.trees f.table.tree))) (map (λ r. f.row_in (Null ∷ r)) rows)
   finds_rows text tests project names params old new plain rows means same shown schema held h =
-      subst (λ xs. IsPermutation xs (map (λ r. f.row_in (Null ∷ r)) rows)) (map_same _) (finds_as (λ r. f.row_in (Null ∷ r)) (λ x. x) text tests project names params old new plain rows means same shown schema held h)
+      subst (λ xs. IsPermutation xs (map (λ r. f.row_in (Null ∷ r)) rows)) (map_same _)
+      (finds_as (λ r. f.row_in (Null ∷ r)) (λ x. x) text tests project names params old new plain rows means same shown schema held h)
     where
       map_same : (xs : List R) → map (λ (x : R). x) xs ≡ xs
       map_same [] = refl

@@ -31,13 +31,15 @@ Accepts under f = accepts_program under [] (query_of f.table.tree [] (columns_at
 abbrev Inserts : {R K : Type 0} {under : Schema} {f : Form R K} → Facts under f → List ℕ → Type 0
 Inserts {under = under} {f = f} facts put = MeansIn under put (InsertOr facts.place Replace (Values (values_of f.table) (width_of f.table)) [])
 
-pub our_told : {R K : Type 0} {f : Form R K} {all put : List ℕ} (facts : Facts our_schema f) → Asks our_schema f all → Whole our_schema all → Accepts our_schema f → Inserts facts put → Say (λ under. under ≡ our_schema) f all put
+pub our_told : {R K : Type 0} {f : Form R K} {all put : List ℕ} (facts : Facts our_schema f) → Asks our_schema f all
+    → Whole our_schema all → Accepts our_schema f → Inserts facts put → Say (λ under. under ≡ our_schema) f all put
 our_told {f = f} {all} {put} facts means whole accepts inserts = (
   under_ours (λ s. AsksAll s f.table.tree (length f.table.columns) all) (asks_all _ _ facts.alone all _ means whole accepts),
   under_ours (λ s. Puts s f put) (record { facts = facts; means = inserts }),
 )
 
-pub first_told : {R K : Type 0} {f : Form R K} {all put : List ℕ} (facts : Facts first_schema f) → Asks first_schema f all → Whole first_schema all → Accepts first_schema f → Inserts facts put → Say (λ under. under ≡ first_schema) f all put
+pub first_told : {R K : Type 0} {f : Form R K} {all put : List ℕ} (facts : Facts first_schema f) → Asks first_schema f all
+    → Whole first_schema all → Accepts first_schema f → Inserts facts put → Say (λ under. under ≡ first_schema) f all put
 first_told {f = f} {all} {put} facts means whole accepts inserts = (
   under_first (λ s. AsksAll s f.table.tree (length f.table.columns) all) (asks_all _ _ facts.alone all _ means whole accepts),
   under_first (λ s. Puts s f put) (record { facts = facts; means = inserts }),

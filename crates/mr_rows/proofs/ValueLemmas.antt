@@ -128,6 +128,7 @@ mends_plain key at [] vs all = refl
 mends_plain key at (c ∷ cs) [] all = refl
 mends_plain key at (c ∷ cs) (v ∷ vs) all =
     let both = and_parts (is_plain c.kind v) (are_plain cs vs) all in
-    let one : (if c.not_null && is_null v && not (is_key key at) then c.default else v) ≡ v = rw (not_null_of c.kind v both.0) (elim c.not_null as (λ b. (if b && false && not (is_key key at) then c.default else v) ≡ v) [ true ↦ refl | false ↦ refl ]) in
+    let one : (if c.not_null && is_null v && not (is_key key at) then c.default else v) ≡ v =
+    rw (not_null_of c.kind v both.0) (elim c.not_null as (λ b. (if b && false && not (is_key key at) then c.default else v) ≡ v) [ true ↦ refl | false ↦ refl ]) in
     let more = mends_plain key (at + 1) cs vs both.1 in
     λ i. one i ∷ more i

@@ -12,13 +12,13 @@ use Rattle.mr_rows.specs.RowLimits.{is_choices}
 -- ---- values
 
 -- a number from low to high
-abbrev pub is_number : ℕ → ℕ → Value → Bool
-is_number low high Null = false
-is_number low high (Int (pos n)) = within low high n
-is_number low high (Int (negsuc n)) = false
-is_number low high (Real x) = false
-is_number low high (Text t) = false
-is_number low high (Blob b) = false
+abbrev pub is_number_cell : ℕ → ℕ → Value → Bool
+is_number_cell low high Null = false
+is_number_cell low high (Int (pos n)) = within low high n
+is_number_cell low high (Int (negsuc n)) = false
+is_number_cell low high (Real x) = false
+is_number_cell low high (Text t) = false
+is_number_cell low high (Blob b) = false
 
 -- a text that passes a test
 abbrev pub is_text : (texts.Text → Bool) → Value → Bool
@@ -33,24 +33,24 @@ is_empty_text [] = true
 is_empty_text (c ∷ cs) = false
 
 abbrev pub is_server_cell : Value → Bool
-is_server_cell v = is_number 1 99 v
+is_server_cell v = is_number_cell 1 99 v
 
 abbrev pub is_count_cell : Value → Bool
-is_count_cell v = is_number 1 greatest_count v
+is_count_cell v = is_number_cell 1 greatest_count v
 
 abbrev pub is_time_cell : Value → Bool
-is_time_cell v = is_number 1 greatest_time v
+is_time_cell v = is_number_cell 1 greatest_time v
 
 -- the number of a commit, or how many there are; 0 if there is none
 abbrev pub is_commit_cell : Value → Bool
-is_commit_cell v = is_number 0 999_999_999_999 v
+is_commit_cell v = is_number_cell 0 999_999_999_999 v
 
 abbrev pub is_mark_cell : Value → Bool
-is_mark_cell v = is_number 0 1 v
+is_mark_cell v = is_number_cell 0 1 v
 
 -- a slot's start and its stop, which is later
 abbrev pub is_span_cells : Value → Value → Bool
-is_span_cells start stop = is_number 0 1439 start && is_number (nat_of start + 1) 1440 stop
+is_span_cells start stop = is_number_cell 0 1439 start && is_number_cell (nat_of start + 1) 1440 stop
 
 abbrev pub is_id_cells : Value → Value → Bool
 is_id_cells server n = is_server_cell server && is_count_cell n
@@ -71,23 +71,23 @@ is_place_cell cancels (Blob b) = false
 
 -- a booking's length, choices and title
 abbrev pub are_meeting_cells : Value → Value → Value → Bool
-are_meeting_cells length choices title = is_number 1 1440 length && is_text (is_choices (nat_of length)) choices && is_text is_title title
+are_meeting_cells length choices title = is_number_cell 1 1440 length && is_text (is_choices (nat_of length)) choices && is_text is_title title
 
 -- What a row of `log` has of a write that books, and of one that cancels: its kind, its meeting, its target and its place. What it hasn't is 0 or an empty text.
 abbrev pub are_booking_cells : Row → Bool
 are_booking_cells r =
-    are_meeting_cells (column r 1) (column r 2) (column r 3) && (is_number 0 0 (column r 4) && is_number 0 0 (column r 5)) && is_place_cell false (column r 6)
+    are_meeting_cells (column r 1) (column r 2) (column r 3) && (is_number_cell 0 0 (column r 4) && is_number_cell 0 0 (column r 5)) && is_place_cell false (column r 6)
 
 abbrev pub are_cancel_cells : Row → Bool
 are_cancel_cells r =
-    is_number 1 1 (column r 0) && (is_number 0 0 (column r 1) && is_text is_empty_text (column r 2) && is_text is_empty_text (column r 3))
+    is_number_cell 1 1 (column r 0) && (is_number_cell 0 0 (column r 1) && is_text is_empty_text (column r 2) && is_text is_empty_text (column r 3))
     && is_id_cells (column r 4) (column r 5) && is_place_cell true (column r 6)
 
 abbrev pub are_logged_cells : Row → Bool
-are_logged_cells r = if is_number 0 0 (column r 0) then are_booking_cells r else are_cancel_cells r
+are_logged_cells r = if is_number_cell 0 0 (column r 0) then are_booking_cells r else are_cancel_cells r
 
 -- a row of `meta` as a query shows it, under the schema of this number
 abbrev pub are_meta_cells : ℕ → Row → Bool
 are_meta_cells schema r =
-    is_number 1 1 (column r 0) && is_number schema schema (column r 1) && is_server_cell (column r 2) && is_server_cell (column r 3)
-    && is_commit_cell (column r 4) && is_commit_cell (column r 5) && is_number 0 greatest_time (column r 6)
+    is_number_cell 1 1 (column r 0) && is_number_cell schema schema (column r 1) && is_server_cell (column r 2) && is_server_cell (column r 3)
+    && is_commit_cell (column r 4) && is_commit_cell (column r 5) && is_number_cell 0 greatest_time (column r 6)

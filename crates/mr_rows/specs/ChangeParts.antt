@@ -52,8 +52,8 @@ put_cancels rows t = record t { cancels = put_all id_before cancel_id rows t.can
 abbrev pub board_taken : ChangeView → Tables → Tables
 board_taken c t = take_errors c.unlogged (take_bookings c.unbooked t)
 
-abbrev pub rows_taken : ChangeView → Tables → Tables
-rows_taken c t = take_cancelled c.uncancelled (board_taken c (take_logs c.dropped t))
+abbrev pub change_taken : ChangeView → Tables → Tables
+change_taken c t = take_cancelled c.uncancelled (board_taken c (take_logs c.dropped t))
 
 abbrev pub heads_put : ChangeView → Tables → Tables
 heads_put c t = put_vector c.vector (put_rooms c.room (put_meta c.meta t))
@@ -64,9 +64,9 @@ board_put c t = put_errors c.errorlog (put_bookings c.booking t)
 abbrev pub cancels_put : ChangeView → Tables → Tables
 cancels_put c t = put_cancels c.cancels (put_cancelled c.cancelled t)
 
-abbrev pub rows_put : ChangeView → Tables → Tables
-rows_put c t = cancels_put c (board_put c (put_logs c.log t))
+abbrev pub change_put : ChangeView → Tables → Tables
+change_put c t = cancels_put c (board_put c (put_logs c.log t))
 
 -- all of a change but the heads
 abbrev pub rows_made : ChangeView → Tables → Tables
-rows_made c t = rows_put c (rows_taken c t)
+rows_made c t = change_put c (change_taken c t)

@@ -11,10 +11,10 @@ use Rattle.mr_model.specs.Tables.{ActionCells, OfMeeting, OfCancel, MeetingCells
 use Rattle.mr_tables.specs.Cells.{is_cancel_cells}
 use Rattle.mr_rows.specs.RowCells.{nat_of, whole_of, place_number, place_in, action_row, action_in}
 use Rattle.mr_rows.specs.RowLimits.{is_choices, is_action_cells, is_place_of}
-use Rattle.mr_rows.specs.CellLimits.{is_number, are_booking_cells, are_cancel_cells, are_logged_cells}
+use Rattle.mr_rows.specs.CellLimits.{is_number_cell, are_booking_cells, are_cancel_cells, are_logged_cells}
 use Rattle.mr_rows.specs.Shown.{columns_from}
-use Rattle.mr_rows.specs.Columns.{Columns, Shows, AreShown, AreSpelled, number_columns, mark_columns, name_columns, title_columns, day_columns, id_columns, span_columns, meeting_columns, logged_columns, both}
-use Rattle.mr_rows.specs.ShownCells.{also, sure, number, given, mark, id_cells, place, text, day, empty}
+use Rattle.mr_rows.specs.Columns.{Columns, ShowsCells, AreShown, AreSpelled, number_columns, mark_columns, name_columns, title_columns, day_columns, id_columns, span_columns, meeting_columns, logged_columns, both}
+use Rattle.mr_rows.specs.ShownCells.{also, sure, number, given, mark_cell, id_cells, place, text, day, empty}
 
 -- ---- so many cells
 
@@ -33,8 +33,8 @@ pub own_columns : (r : Row) → columns_from 0 (length r) r ≡ r
 own_columns [] = refl
 own_columns (v ∷ r) = ap (λ xs. v ∷ xs) (columns_behind 0 (length r) v r ∙ own_columns r)
 
-pub of_columns : {V : Type 0} (c : Columns V) → ((r : Row) → Shows (c.are r) (c.cells (c.value_in r)) (columns_from 0 c.width r) (c.within (c.value_in r))) → AreShown c
-of_columns c shown r long = subst (λ cells. Shows (c.are r) (c.cells (c.value_in r)) cells (c.within (c.value_in r))) (ap (λ n. columns_from 0 n r) (sym long) ∙ own_columns r) (shown r)
+pub of_columns : {V : Type 0} (c : Columns V) → ((r : Row) → ShowsCells (c.are r) (c.cells (c.value_in r)) (columns_from 0 c.width r) (c.within (c.value_in r))) → AreShown c
+of_columns c shown r long = subst (λ cells. ShowsCells (c.are r) (c.cells (c.value_in r)) cells (c.within (c.value_in r))) (ap (λ n. columns_from 0 n r) (sym long) ∙ own_columns r) (shown r)
 
 -- ---- one value
 
@@ -42,7 +42,7 @@ pub number_shown : (low high : ℕ) → AreShown (number_columns low high)
 number_shown low high = of_columns (number_columns low high) (λ r. number low high (column r 0))
 
 pub mark_shown : AreShown mark_columns
-mark_shown = of_columns mark_columns (λ r. mark (column r 0))
+mark_shown = of_columns mark_columns (λ r. mark_cell (column r 0))
 
 pub name_shown : AreShown name_columns
 name_shown = of_columns name_columns (λ r. text is_room_name (column r 0))
@@ -72,10 +72,10 @@ target_of r = record { server = nat_of (column r 4); n = nat_of (column r 5) }
 
 abbrev ShowsAction : Row → Bool → ActionCells → Type 0
 ShowsAction r test a =
-    Shows test (action_row a ++ Int (place_number (place_in (whole_of (column r 6)))) ∷ []) (columns_from 0 7 r) (is_action_cells a && is_place_of (is_cancel_cells a) (place_in (whole_of (column r 6))))
+    ShowsCells test (action_row a ++ Int (place_number (place_in (whole_of (column r 6)))) ∷ []) (columns_from 0 7 r) (is_action_cells a && is_place_of (is_cancel_cells a) (place_in (whole_of (column r 6))))
 
 -- a write that books
-meeting : (r : Row) → ShowsAction r (is_number 0 0 (column r 0) && are_booking_cells r) (OfMeeting (meeting_of r))
+meeting : (r : Row) → ShowsAction r (is_number_cell 0 0 (column r 0) && are_booking_cells r) (OfMeeting (meeting_of r))
 meeting r =
     let cells = also (also (number 1 1440 (column r 1)) (text (is_choices (nat_of (column r 1))) (column r 2))) (text is_title (column r 3)) in
     also (given 0 (column r 0)) (also (sure _ (also cells (also (given 0 (column r 4)) (given 0 (column r 5))))) (place false (column r 6)))
@@ -87,11 +87,11 @@ target r =
     also (also (also (given 1 (column r 0)) none) (id_cells (column r 4) (column r 5))) (place true (column r 6))
 
 -- a number that is known is what is read
-kind_is : (k : ℕ) (v : Value) → is_number k k v ≡ true → nat_of v ≡ k
+kind_is : (k : ℕ) (v : Value) → is_number_cell k k v ≡ true → nat_of v ≡ k
 kind_is k v h = sym (ap (λ r. nat_of (column r 0)) ((given k v).told.0 h).0)
 
 -- what is read of a row that books
-pub books : (v : Value) (m got : MeetingCells) (t : Id) → is_number 0 0 v ≡ true → got ≡ m → OfMeeting got ≡ action_in (nat_of v) m t
+pub books : (v : Value) (m got : MeetingCells) (t : Id) → is_number_cell 0 0 v ≡ true → got ≡ m → OfMeeting got ≡ action_in (nat_of v) m t
 books v m got t booked is = ap OfMeeting is ∙ sym (ap (λ k. action_in k m t) (kind_is 0 v booked))
 
 -- either
@@ -116,7 +116,7 @@ pub both_shown : {A B : Type 0} (a : Columns A) (b : Columns B) → AreShown a �
 both_shown a b of_a of_b r long =
     let first = of_a (take a.width r) (length-take a.width r ∙ omega (arith, long)) in
     let second = of_b (drop a.width r) (length-drop a.width r ∙ omega (arith, long)) in
-    subst (λ cells. Shows ((both a b).are r) ((both a b).cells ((both a b).value_in r)) cells ((both a b).within ((both a b).value_in r))) (take-append-drop a.width r) (also first second)
+    subst (λ cells. ShowsCells ((both a b).are r) ((both a b).cells ((both a b).value_in r)) cells ((both a b).within ((both a b).value_in r))) (take-append-drop a.width r) (also first second)
 
 pub both_spelled : {A B : Type 0} (a : Columns A) (b : Columns B) → AreSpelled a → AreSpelled b → AreSpelled (both a b)
 both_spelled a b of_a of_b x = (

@@ -13,7 +13,7 @@ use Rattle.mr_model.specs.Tables.{ActionCells, MeetingCells}
 use Rattle.mr_tables.specs.Cells.{is_cancel_cells}
 use Rattle.mr_rows.specs.RowCells.{nat_of, whole_of, flag_number, place_number, place_in, action_row, action_in}
 use Rattle.mr_rows.specs.RowLimits.{is_day_text, is_meeting_cells, is_action_cells, is_place_of}
-use Rattle.mr_rows.specs.CellLimits.{is_number, is_text, is_mark_cell, is_span_cells, is_id_cells, are_meeting_cells, are_logged_cells}
+use Rattle.mr_rows.specs.CellLimits.{is_number_cell, is_text, is_mark_cell, is_span_cells, is_id_cells, are_meeting_cells, are_logged_cells}
 
 -- values V in so many cells: how they are spelled, what is read of cells, whether these pass their tests, and the limits of the values
 pub record Columns (V : Type 0) : Type 0 where
@@ -24,13 +24,13 @@ pub record Columns (V : Type 0) : Type 0 where
   pub within : V → Bool
 
 -- The test tells whether these cells are spelled as what is read of them, and whether that is within a limit.
-pub record Shows (test : Bool) (spelled cells : Row) (limit : Bool) : Type 0 where
+pub record ShowsCells (test : Bool) (spelled cells : Row) (limit : Bool) : Type 0 where
   pub long : length spelled ≡ length cells
   pub told : Decides test ((spelled ≡ cells) × (limit ≡ true))
 
 -- so it is of as many cells as these are
 abbrev pub AreShown : {V : Type 0} → Columns V → Type 0
-AreShown c = (r : Row) → length r ≡ c.width → Shows (c.are r) (c.cells (c.value_in r)) r (c.within (c.value_in r))
+AreShown c = (r : Row) → length r ≡ c.width → ShowsCells (c.are r) (c.cells (c.value_in r)) r (c.within (c.value_in r))
 
 -- their cells are so many, and a statement takes them as they are
 abbrev pub AreSpelled : {V : Type 0} → Columns V → Type 0
@@ -39,7 +39,7 @@ AreSpelled {V} c = (x : V) → (length (c.cells x) ≡ c.width) × (map bound_va
 -- ---- one value
 
 abbrev pub number_columns : ℕ → ℕ → Columns ℕ
-number_columns low high = record { width = 1; cells = λ n. Int (pos n) ∷ []; value_in = λ r. nat_of (column r 0); are = λ r. is_number low high (column r 0); within = within low high }
+number_columns low high = record { width = 1; cells = λ n. Int (pos n) ∷ []; value_in = λ r. nat_of (column r 0); are = λ r. is_number_cell low high (column r 0); within = within low high }
 
 abbrev pub mark_columns : Columns Bool
 mark_columns = record { width = 1; cells = λ b. Int (flag_number b) ∷ []; value_in = λ r. nat_of (column r 0) == 1; are = λ r. is_mark_cell (column r 0); within = λ _. true }

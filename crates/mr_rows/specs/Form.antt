@@ -9,7 +9,7 @@ use Rattle.mr_model.specs.Queries.{booking_id, error_id, cancelled_id, cancel_id
 use Rattle.mr_tables.specs.Change.{id_before}
 use Rattle.sqlite_schema.specs.declared.schema.Table.{Table}
 use Rattle.mr_rows.specs.Schema.{meta_table, room_table, vector_table, booking_table, error_table, log_table, cancelled_table, cancel_table}
-use Rattle.mr_rows.specs.RowCells.{meta_cells_of, meta_in, room_cells, room_in, vector_cells, vector_in, log_cells, log_in, booking_cells, booking_row_from, error_cells, error_in, cancelled_cells, cancelled_in, cancel_cells, cancel_row_from}
+use Rattle.mr_rows.specs.RowCells.{meta_cells_of, meta_in, room_cells, room_in, vector_cells, vector_row_from, log_cells, log_in, booking_cells, booking_row_from, error_cells, error_in, cancelled_cells, cancelled_in, cancel_cells, cancel_row_from}
 use Rattle.mr_rows.specs.RowLimits.{is_meta_row, is_vector_row, is_log_row, is_booking_row, is_error_row, is_cancelled_row, is_cancel_row}
 
 -- plain rows R with keys K
@@ -32,7 +32,7 @@ abbrev pub room_form : Form Text Text
 room_form = record { table = record room_table { tree = 2 }; cells = room_cells; row_in = room_in; within = is_room_name; key = λ name. name; before = text_before }
 
 abbrev pub vector_form : Form VectorRow ℕ
-vector_form = record { table = record vector_table { tree = 4 }; cells = vector_cells; row_in = vector_in; within = is_vector_row; key = λ row. row.server; before = nat_lt }
+vector_form = record { table = record vector_table { tree = 4 }; cells = vector_cells; row_in = vector_row_from; within = is_vector_row; key = λ row. row.server; before = nat_lt }
 
 abbrev pub booking_form : Form BookingRow Id
 booking_form = record { table = record booking_table { tree = 10 }; cells = booking_cells; row_in = booking_row_from; within = is_booking_row; key = booking_id; before = id_before }

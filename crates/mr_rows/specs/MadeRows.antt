@@ -56,20 +56,20 @@ slot_limits x =
 abbrev pub vector_of : (((ℕ × ℕ) × ℕ) × ℕ) → VectorRow
 vector_of x = record { server = x.0.0.0; count = x.0.0.1; last_time = x.0.1; committed = x.1 }
 
-abbrev pub booking_of : (SlotParts × Bool) → BookingRow
-booking_of x = record { room = x.0.0.0.0.0; day = x.0.0.0.0.1; start = x.0.0.0.1.0; stop = x.0.0.0.1.1; server = x.0.0.1.server; n = x.0.0.1.n; title = x.0.1; committed = x.1 }
+abbrev pub booking_row_of : (SlotParts × Bool) → BookingRow
+booking_row_of x = record { room = x.0.0.0.0.0; day = x.0.0.0.0.1; start = x.0.0.0.1.0; stop = x.0.0.0.1.1; server = x.0.0.1.server; n = x.0.0.1.n; title = x.0.1; committed = x.1 }
 
 abbrev pub error_of : ((SlotParts × ℕ) × ℕ) → ErrorRow
 error_of x = record { room = x.0.0.0.0.0.0; day = x.0.0.0.0.0.1; start = x.0.0.0.0.1.0; stop = x.0.0.0.0.1.1; server = x.0.0.0.1.server; n = x.0.0.0.1.n; title = x.0.0.1; time = x.0.1; seq = x.1 }
 
 abbrev pub cancelled_of : ((SlotParts × Bool) × Id) → CancelledRow
-cancelled_of x = taken_back x.1 (booking_of x.0)
+cancelled_of x = taken_back x.1 (booking_row_of x.0)
 
 abbrev pub log_of : ((((Id × ℕ) × texts.Text) × (ActionCells × Place)) × ℕ) → LogRow
 log_of x = record { server = x.0.0.0.0.server; n = x.0.0.0.0.n; time = x.0.0.0.1; room = x.0.0.1; action = x.0.1.0; place = x.0.1.1; seq = x.1 }
 
-abbrev pub cancel_of : (((((Id × texts.Text) × Id) × Bool) × ℕ) × ℕ) → CancelRow
-cancel_of x = record { server = x.0.0.0.0.0.server; n = x.0.0.0.0.0.n; room = x.0.0.0.0.1; target = x.0.0.0.1; done = x.0.0.1; time = x.0.1; seq = x.1 }
+abbrev pub cancel_row_of : (((((Id × texts.Text) × Id) × Bool) × ℕ) × ℕ) → CancelRow
+cancel_row_of x = record { server = x.0.0.0.0.0.server; n = x.0.0.0.0.0.n; room = x.0.0.0.0.1; target = x.0.0.0.1; done = x.0.0.1; time = x.0.1; seq = x.1 }
 
 pub room_made : IsMade room_form name_columns (λ name. name)
 room_made = made refl refl (λ r. refl) (λ x. refl) (λ x. refl)
@@ -77,7 +77,7 @@ room_made = made refl refl (λ r. refl) (λ x. refl) (λ x. refl)
 pub vector_made : IsMade vector_form (both (both (both (number_columns 1 99) (number_columns 1 greatest_count)) time_columns) (number_columns 0 greatest_count)) vector_of
 vector_made = made refl refl (λ r. refl) (λ x. refl) (λ x. refl)
 
-pub booking_made : IsMade booking_form (both slot_columns mark_columns) booking_of
+pub booking_made : IsMade booking_form (both slot_columns mark_columns) booking_row_of
 booking_made = made refl refl (λ r. refl) (λ x. refl) (λ x. slot_limits x.0 ∙ sym (and-true _))
 
 pub error_made : IsMade error_form (both (both slot_columns time_columns) commit_columns) error_of
@@ -91,5 +91,5 @@ log_made =
     made refl refl (λ r. refl) (λ x. ap (λ cells. Int (pos x.0.0.0.0.server) ∷ Int (pos x.0.0.0.0.n) ∷ Int (pos x.0.0.0.1) ∷ Text x.0.0.1 ∷ cells) (sym (append_assoc (action_row x.0.1.0) (Int (place_number x.0.1.1) ∷ []) (Int (pos x.1) ∷ []))))
     (λ x. ap (λ b. b && is_commit x.1) (and_assoc _ (is_action_cells x.0.1.0) (is_place_of (is_cancel_cells x.0.1.0) x.0.1.1)))
 
-pub cancel_made : IsMade cancel_form (both (both (both (both (both id_columns name_columns) id_columns) mark_columns) time_columns) commit_columns) cancel_of
+pub cancel_made : IsMade cancel_form (both (both (both (both (both id_columns name_columns) id_columns) mark_columns) time_columns) commit_columns) cancel_row_of
 cancel_made = made refl refl (λ r. refl) (λ x. refl) (λ x. ap (λ b. b && is_time x.0.1 && is_commit x.1) (sym (and-true _)))

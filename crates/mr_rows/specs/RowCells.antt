@@ -77,8 +77,8 @@ room_in r = bytes (column r 1)
 abbrev pub vector_cells : VectorRow → Row
 vector_cells v = Int (pos v.server) ∷ Int (pos v.count) ∷ Int (pos v.last_time) ∷ Int (pos v.committed) ∷ []
 
-abbrev pub vector_in : Row → VectorRow
-vector_in r = record {
+abbrev pub vector_row_from : Row → VectorRow
+vector_row_from r = record {
   server = nat_of (column r 1);
   count = nat_of (column r 2);
   last_time = nat_of (column r 3);

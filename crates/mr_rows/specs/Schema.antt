@@ -18,8 +18,8 @@ column_of name kind = record { name = name; kind = kind; is_strict = true; not_n
 abbrev pub int : List ℕ → Column
 int name = column_of name Integer
 
-abbrev pub text : List ℕ → Column
-text name = column_of name Text
+abbrev pub text_column : List ℕ → Column
+text_column name = column_of name Text
 
 -- A table with one key; its columns are numbered from 1, and none are declared primary where the key is merely unique.
 abbrev pub table_of : List ℕ → List Column → List ℕ → List ℕ → Table
@@ -80,7 +80,7 @@ meta_table =
     [] (1 ∷ [])
 
 abbrev pub room_table : Table
-room_table = table_of (codes "room") (text (codes "name") ∷ []) (1 ∷ []) (1 ∷ [])
+room_table = table_of (codes "room") (text_column (codes "name") ∷ []) (1 ∷ []) (1 ∷ [])
 
 abbrev pub vector_table : Table
 vector_table = table_of (codes "vector") (int (codes "server") ∷ int (codes "n") ∷ int (codes "tm") ∷ int (codes "committed") ∷ []) [] (1 ∷ [])
@@ -88,7 +88,7 @@ vector_table = table_of (codes "vector") (int (codes "server") ∷ int (codes "n
 abbrev pub write_log_table : Table
 write_log_table =
     table_of (codes "write_log")
-    (int (codes "server") ∷ int (codes "n") ∷ int (codes "tm") ∷ text (codes "room") ∷ int (codes "length") ∷ text (codes "choices") ∷ text (codes "title")
+    (int (codes "server") ∷ int (codes "n") ∷ int (codes "tm") ∷ text_column (codes "room") ∷ int (codes "length") ∷ text_column (codes "choices") ∷ text_column (codes "title")
     ∷ int (codes "seq") ∷ [])
     (1 ∷ 2 ∷ []) (1 ∷ 2 ∷ [])
 
@@ -98,35 +98,35 @@ undo_table = table_of (codes "undo") (int (codes "server") ∷ int (codes "n") �
 abbrev pub booking_table : Table
 booking_table =
     table_of (codes "booking")
-    (text (codes "room") ∷ text (codes "day") ∷ int (codes "start") ∷ int (codes "stop") ∷ int (codes "server") ∷ int (codes "n") ∷ text (codes "title")
+    (text_column (codes "room") ∷ text_column (codes "day") ∷ int (codes "start") ∷ int (codes "stop") ∷ int (codes "server") ∷ int (codes "n") ∷ text_column (codes "title")
     ∷ int (codes "committed") ∷ [])
     (5 ∷ 6 ∷ []) (5 ∷ 6 ∷ [])
 
 abbrev pub error_table : Table
 error_table =
     table_of (codes "errorlog")
-    (text (codes "room") ∷ text (codes "day") ∷ int (codes "start") ∷ int (codes "stop") ∷ int (codes "server") ∷ int (codes "n") ∷ text (codes "title")
+    (text_column (codes "room") ∷ text_column (codes "day") ∷ int (codes "start") ∷ int (codes "stop") ∷ int (codes "server") ∷ int (codes "n") ∷ text_column (codes "title")
     ∷ int (codes "tm") ∷ int (codes "seq") ∷ [])
     (5 ∷ 6 ∷ []) (5 ∷ 6 ∷ [])
 
 abbrev pub log_table : Table
 log_table =
     table_of (codes "log")
-    (int (codes "server") ∷ int (codes "n") ∷ int (codes "tm") ∷ text (codes "room") ∷ int (codes "kind") ∷ int (codes "length") ∷ text (codes "choices")
-    ∷ text (codes "title") ∷ int (codes "tserver") ∷ int (codes "tn") ∷ int (codes "place") ∷ int (codes "seq") ∷ [])
+    (int (codes "server") ∷ int (codes "n") ∷ int (codes "tm") ∷ text_column (codes "room") ∷ int (codes "kind") ∷ int (codes "length") ∷ text_column (codes "choices")
+    ∷ text_column (codes "title") ∷ int (codes "tserver") ∷ int (codes "tn") ∷ int (codes "place") ∷ int (codes "seq") ∷ [])
     (1 ∷ 2 ∷ []) (1 ∷ 2 ∷ [])
 
 abbrev pub cancelled_table : Table
 cancelled_table =
     table_of (codes "cancelled")
-    (text (codes "room") ∷ text (codes "day") ∷ int (codes "start") ∷ int (codes "stop") ∷ int (codes "server") ∷ int (codes "n") ∷ text (codes "title")
+    (text_column (codes "room") ∷ text_column (codes "day") ∷ int (codes "start") ∷ int (codes "stop") ∷ int (codes "server") ∷ int (codes "n") ∷ text_column (codes "title")
     ∷ int (codes "committed") ∷ int (codes "bserver") ∷ int (codes "bn") ∷ [])
     (5 ∷ 6 ∷ []) (5 ∷ 6 ∷ [])
 
 abbrev pub cancel_table : Table
 cancel_table =
     table_of (codes "cancel")
-    (int (codes "server") ∷ int (codes "n") ∷ text (codes "room") ∷ int (codes "tserver") ∷ int (codes "tn") ∷ int (codes "done") ∷ int (codes "tm")
+    (int (codes "server") ∷ int (codes "n") ∷ text_column (codes "room") ∷ int (codes "tserver") ∷ int (codes "tn") ∷ int (codes "done") ∷ int (codes "tm")
     ∷ int (codes "seq") ∷ [])
     (1 ∷ 2 ∷ []) (1 ∷ 2 ∷ [])
 

@@ -14,14 +14,14 @@ use Rattle.mr_rows.specs.Database.{IsHeld, in_order}
 -- ---- one table
 
 -- the trees with other rows in one of them
-abbrev pub overlaid : Trees → ℕ → List Row → Trees
-overlaid db tree rows t = if t == tree then rows else db t
+abbrev pub trees_with : Trees → ℕ → List Row → Trees
+trees_with db tree rows t = if t == tree then rows else db t
 
 -- within a transaction, one table has these rows from now on
 pub record Turns (under : Schema) {R K : Type 0} (f : Form R K) (old new : State) (xs : List R) : Type 0 where
   pub rows : List Row
   pub schema : new.now.schema ≡ under
-  pub trees : (t : ℕ) → IsNoIndex under t → new.now.trees t ≡ overlaid old.now.trees f.table.tree rows t
+  pub trees : (t : ℕ) → IsNoIndex under t → new.now.trees t ≡ trees_with old.now.trees f.table.tree rows t
   pub held : IsHeld f rows
   pub rows_are : in_order f rows ≡ xs
   pub committed : new.committed ≡ old.committed
@@ -45,16 +45,16 @@ TakesRow under f id_of id old new result = TurnsInto under f (rows_without id_of
 -- This is one of the tables that a database has: these are its rows, and so it gets other ones.
 pub record IsTableOf {T R K : Type 0} (Held : Trees → Type 0) (seen : Trees → T) (f : Form R K) (rows_of : T → List R) (with_rows : List R → T → T) : Type 0 where
   pub was : (t : Trees) → Held t → IsHeld f (t f.table.tree)
-  pub held : (t : Trees) (rows : List Row) → Held t → IsHeld f rows → Held (overlaid t f.table.tree rows)
+  pub held : (t : Trees) (rows : List Row) → Held t → IsHeld f rows → Held (trees_with t f.table.tree rows)
   pub read : (t : Trees) → rows_of (seen t) ≡ in_order f (t f.table.tree)
-  pub made : (t : Trees) (rows : List Row) → seen (overlaid t f.table.tree rows) ≡ with_rows (in_order f rows) (seen t)
+  pub made : (t : Trees) (rows : List Row) → seen (trees_with t f.table.tree rows) ≡ with_rows (in_order f rows) (seen t)
   pub same : (t : T) → with_rows (rows_of t) t ≡ t
   pub back : (xs : List R) (t : T) → rows_of (with_rows xs t) ≡ xs
   pub again : (xs ys : List R) (t : T) → with_rows ys (with_rows xs t) ≡ with_rows ys t
 
 abbrev pub table_is : {T R K : Type 0} {Held : Trees → Type 0} {seen : Trees → T} (f : Form R K) (rows_of : T → List R) (with_rows : List R → T → T) → ((t : Trees) → Held t → IsHeld f (t f.table.tree))
-    → ((t : Trees) (rows : List Row) → Held t → IsHeld f rows → Held (overlaid t f.table.tree rows)) → ((t : Trees) → rows_of (seen t) ≡ in_order f (t f.table.tree))
-    → ((t : Trees) (rows : List Row) → seen (overlaid t f.table.tree rows) ≡ with_rows (in_order f rows) (seen t)) → ((t : T) → with_rows (rows_of t) t ≡ t) → ((xs : List R) (t : T) → rows_of (with_rows xs t) ≡ xs)
+    → ((t : Trees) (rows : List Row) → Held t → IsHeld f rows → Held (trees_with t f.table.tree rows)) → ((t : Trees) → rows_of (seen t) ≡ in_order f (t f.table.tree))
+    → ((t : Trees) (rows : List Row) → seen (trees_with t f.table.tree rows) ≡ with_rows (in_order f rows) (seen t)) → ((t : T) → with_rows (rows_of t) t ≡ t) → ((xs : List R) (t : T) → rows_of (with_rows xs t) ≡ xs)
     → ((xs ys : List R) (t : T) → with_rows ys (with_rows xs t) ≡ with_rows ys t) → IsTableOf Held seen f rows_of with_rows
 table_is f rows_of with_rows was held read made same back again = record { was = was; held = held; read = read; made = made; same = same; back = back; again = again }
 

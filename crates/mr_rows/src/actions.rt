@@ -3,7 +3,7 @@ ghost use Rattle.sqlite_value.specs.declared.value.Value.TheVariants.{Int};
 ghost use Rattle.sqlite_value.specs.Order.{column};
 ghost use Rattle.mr_replay.specs.Places.{place_seen};
 ghost use Rattle.mr_rows.specs.RowCells.{nat_of, whole_of, place_in};
-ghost use Rattle.mr_rows.specs.CellLimits.{is_number, is_text, is_empty_text, is_place_cell, are_booking_cells, are_cancel_cells};
+ghost use Rattle.mr_rows.specs.CellLimits.{is_number_cell, is_text, is_empty_text, is_place_cell, are_booking_cells, are_cancel_cells};
 ghost use Rattle.mr_rows.specs.Shown.{columns_from};
 ghost use Rattle.mr_rows.specs.Columns.{id_columns, meeting_columns, logged_columns};
 ghost use Rattle.mr_rows.specs.ColumnLaws.{meeting_shown, logged_shown, logged_spelled};
@@ -97,7 +97,7 @@ fn has_place(row: &Row, at: usize, is_cancel: bool) -> bool
 /// Whether there is no target.
 fn has_no_target(row: &Row, at: usize) -> bool
     requires { at ≤ 100 }
-    ensures { result ≡ (is_number 0 0 (column row.now at) && is_number 0 0 (column row.now (at + 1))) }
+    ensures { result ≡ (is_number_cell 0 0 (column row.now at) && is_number_cell 0 0 (column row.now (at + 1))) }
 {
     has_number(row, at, 0, 0) && has_number(row, at + 1, 0, 0)
 }
@@ -105,7 +105,7 @@ fn has_no_target(row: &Row, at: usize) -> bool
 /// Whether there is no meeting.
 fn has_no_meeting(row: &Row, at: usize) -> bool
     requires { at ≤ 100 }
-    ensures { result ≡ (is_number 0 0 (column row.now at) && is_text is_empty_text (column row.now (at + 1)) && is_text is_empty_text (column row.now (at + 1 + 1))) }
+    ensures { result ≡ (is_number_cell 0 0 (column row.now at) && is_text is_empty_text (column row.now (at + 1)) && is_text is_empty_text (column row.now (at + 1 + 1))) }
 {
     has_number(row, at, 0, 0) && has_empty(row, at + 1) && has_empty(row, at + 1 + 1)
 }

@@ -3,7 +3,7 @@ ghost use Rattle.mr_model.specs.Writes.{Id};
 ghost use Rattle.mr_model.specs.Queries.{cancel_id};
 ghost use Rattle.mr_tables.specs.TableOrders.{id_order};
 ghost use Rattle.mr_rows.specs.Schema.{our_schema};
-ghost use Rattle.mr_rows.specs.MadeRows.{cancel_of, cancel_made};
+ghost use Rattle.mr_rows.specs.MadeRows.{cancel_row_of, cancel_made};
 ghost use Rattle.mr_rows.specs.Form.{cancel_form};
 ghost use Rattle.mr_rows.specs.OurTables.{cancel_is};
 
@@ -22,7 +22,7 @@ impl StoredRow for CancelRow {
 
     type Parts = (((((WriteId, RoomName), WriteId), bool), Time), Commit);
 
-    ghost of = { cancel_of };
+    ghost of = { cancel_row_of };
 
     fn texts() -> RowTexts {
         RowTexts {

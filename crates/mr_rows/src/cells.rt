@@ -8,7 +8,7 @@ ghost use Rattle.mr_model.specs.Writes.{is_server, is_count, is_id, is_room_name
 ghost use Rattle.mr_replay.specs.Places.{place_seen};
 ghost use Rattle.mr_rows.specs.RowCells.{flag_number, nat_of, whole_of, place_in, place_number};
 ghost use Rattle.mr_rows.specs.RowLimits.{is_small, is_place, is_day_text};
-ghost use Rattle.mr_rows.specs.CellLimits.{is_number, is_text, is_server_cell, is_count_cell, is_commit_cell, is_mark_cell, is_id_cells, is_place_cell};
+ghost use Rattle.mr_rows.specs.CellLimits.{is_number_cell, is_text, is_server_cell, is_count_cell, is_commit_cell, is_mark_cell, is_id_cells, is_place_cell};
 
 use mr_base::{
     Day, GREATEST_COMMIT, GREATEST_COUNT, GREATEST_SERVER, Refusal, RoomName, ServerId, Title,
@@ -126,14 +126,14 @@ pub(crate) fn has_day(row: &Row, at: usize) -> bool
 
 /// Whether a column's number is from `low` to `high`.
 fn is_between(number: i64, low: u64, high: u64) -> bool
-    ensures { result ≡ is_number low high (Int number) }
+    ensures { result ≡ is_number_cell low high (Int number) }
 {
     number >= 0 && number as u64 >= low && number as u64 <= high
 }
 
 /// Whether this column has a number from `low` to `high`.
 pub fn has_number(row: &Row, at: usize, low: u64, high: u64) -> bool
-    ensures { result ≡ is_number low high (column row.now at) }
+    ensures { result ≡ is_number_cell low high (column row.now at) }
 {
     match row.get_ref(at) {
         Ok(ValueRef::Int(number)) => is_between(number, low, high),
@@ -146,7 +146,7 @@ pub fn read_number(row: &Row, at: usize, low: u64, high: u64) -> Result<u64, Err
     ensures number { IfOk result (λ number. number ≡ nat_of (column row.now at)) }
     ensures cell { IfOk result (λ number. column row.now at ≡ Int (pos number)) }
     ensures within { IfOk result (λ number. IsTrue (within low high number)) }
-    ensures refused { IfErr result (λ _. is_number low high (column row.now at) ≡ false) }
+    ensures refused { IfErr result (λ _. is_number_cell low high (column row.now at) ≡ false) }
 {
     match row.get_ref(at)? {
         ValueRef::Int(number) if is_between(number, low, high) => Ok(number as u64),

@@ -4,7 +4,7 @@ ghost use Rattle.sqlite.specs.Held.{state};
 ghost use Rattle.mr_tables.specs.Change.{changed};
 ghost use Rattle.mr_rows.specs.Database.{MakesTables, Applies, IsReached, tables_in};
 ghost use Rattle.mr_rows.specs.TableSteps.{rows_put as rows_in, rows_taken as rows_gone};
-ghost use Rattle.mr_rows.specs.ChangeParts.{board_taken, rows_taken, heads_put, board_put, cancels_put, rows_put, rows_made};
+ghost use Rattle.mr_rows.specs.ChangeParts.{board_taken, change_taken, heads_put, board_put, cancels_put, change_put, rows_made};
 
 use crate::idle::Idle;
 use crate::puts::put_meta;
@@ -107,7 +107,7 @@ fn put_into_cancels<S: Alter>(
 fn take_rows<S: Alter>(tx: &mut Transaction<'_, S>, change: &Change) -> Result<(), Error>
     ensures same_reference { tx.new.conn.ghost_name ≡ tx.old.conn.ghost_name }
     ensures made { MakesTables (state S.Store tx.old.conn.now) (state S.Store tx.new.conn.now)
-        (rows_taken change.now (tables_in (state S.Store tx.old.conn.now).now.trees)) result }
+        (change_taken change.now (tables_in (state S.Store tx.old.conn.now).now.trees)) result }
     ensures survives { Survives (state S.Store tx.old.conn.now) (state S.Store tx.new.conn.now) (λ _. ⊥) }
 {
     take_all::<LogRow, S>(tx, &change.dropped)?;
@@ -123,7 +123,7 @@ fn put_rows<S: Alter>(
 ) -> Result<(), Error>
     ensures same_reference { tx.new.conn.ghost_name ≡ tx.old.conn.ghost_name }
     ensures made { MakesTables (state S.Store tx.old.conn.now) (state S.Store tx.new.conn.now)
-        (rows_put change.now (tables_in (state S.Store tx.old.conn.now).now.trees)) result }
+        (change_put change.now (tables_in (state S.Store tx.old.conn.now).now.trees)) result }
     ensures survives { Survives (state S.Store tx.old.conn.now) (state S.Store tx.new.conn.now) (λ _. ⊥) }
 {
     put_all::<LogRow, S>(tx, alloc, &change.log)?;

@@ -5,7 +5,7 @@ ghost use Rattle.mr_model.specs.Queries.{booking_id, error_id, cancelled_id};
 ghost use Rattle.mr_tables.specs.TableOrders.{id_order};
 ghost use Rattle.mr_rows.specs.Schema.{our_schema, IsOfTwo};
 ghost use Rattle.mr_rows.specs.Form.{booking_form, error_form, cancelled_form};
-ghost use Rattle.mr_rows.specs.MadeRows.{booking_of, error_of, cancelled_of, booking_made, error_made, cancelled_made};
+ghost use Rattle.mr_rows.specs.MadeRows.{booking_row_of, error_of, cancelled_of, booking_made, error_made, cancelled_made};
 ghost use Rattle.mr_rows.specs.OurTables.{booking_is, error_is, cancelled_is};
 
 use crate::asked_rows::{AskedRow, AskedTexts};
@@ -26,7 +26,7 @@ impl StoredRow for BookingRow {
 
     type Parts = (SlotParts, bool);
 
-    ghost of = { booking_of };
+    ghost of = { booking_row_of };
 
     fn texts() -> RowTexts {
         RowTexts {

@@ -69,7 +69,8 @@ pub cancel_refused : (room id : Text) (e : Refusal) → OrOutOfMemory (Err e) (o
 cancel_refused room id e said = cancel_refused_at room id e (is_room_name room) refl said
 
 -- the words of a room and of an id are the cancel of this id there
-pub cancel_read : (room name id : Text) (target : Id) → OrOutOfMemory (Ok name) (ok_if (is_room_name room) room refusal.BadRoomName) → ◌≡◌ {A = Result Id Refusal} (Ok target) (ok_or (read_id id) refusal.NoSuchRequest)
+pub cancel_read : (room name id : Text) (target : Id) → OrOutOfMemory (Ok name) (ok_if (is_room_name room) room refusal.BadRoomName)
+    → ◌≡◌ {A = Result Id Refusal} (Ok target) (ok_or (read_id id) refusal.NoSuchRequest)
     → Does (Cancel room id) (cancel_request name target)
 cancel_read room name id target said read = λ a.
     let named : (is_room_name room ≡ true) × (room ≡ name) = room_at (is_room_name room) said in

@@ -139,7 +139,8 @@ abbrev pub Atomic : {K X : Type 0} → Ghosts K → K → K → ChangeView → R
 Atomic k old new change result = IsAtomic k.tables k.failures k.is_clean k.is_open k.may_leave k.never_fails change old new result
 
 -- what a crash may leave where a change is being made
-left_of : {K : Type 0} (k : Ghosts K) (old : K) (c : Command) (t u : Tables) → Reaches (k.tables old) c u → k.may_leave old t ⊎ (k.is_open old × (t ≡ u)) → k.may_leave old t ⊎ Reaches (k.tables old) c t
+left_of : {K : Type 0} (k : Ghosts K) (old : K) (c : Command) (t u : Tables) → Reaches (k.tables old) c u
+    → k.may_leave old t ⊎ (k.is_open old × (t ≡ u)) → k.may_leave old t ⊎ Reaches (k.tables old) c t
 left_of k old c t u reaches (inl before) = inl before
 left_of k old c t u reaches (inr (o, after)) = inr (subst (λ v. Reaches (k.tables old) c v) (sym after) reaches)
 
@@ -205,9 +206,11 @@ from_loaded k old new s part loaded u o = λ a h.
 pub told_by : {K : Type 0} (k : Ghosts K) (old new : K) (s : Scope) (part : PartView) (answer : Result code.Reply Refusal) (c : Command) (f : Replica → After)
     → IsLoaded k old new s (Ok part) → Does c f → Tells s f part answer → IsServed k old new c (reply_in answer)
 told_by k old new s part (Ok reply) c f loaded does told =
-    answered_by k old new part c (reply_of reply) loaded.read (λ u o. answers_step c f s part (reply_of reply) (λ t. t) (k.tables old) (k.tables new) does (loaded.fits u (loaded.read.opens u o)) told (loaded.read.same u o)) (told.accepted model.Store)
+    answered_by k old new part c (reply_of reply) loaded.read
+    (λ u o. answers_step c f s part (reply_of reply) (λ t. t) (k.tables old) (k.tables new) does (loaded.fits u (loaded.read.opens u o)) told (loaded.read.same u o)) (told.accepted model.Store)
 told_by k old new s part (Err e) c f loaded does told =
-    answered_by k old new part c (Refused (refusal_of e)) loaded.read (λ u o. refuses_step c f s part e (k.tables old) (k.tables new) does (loaded.fits u (loaded.read.opens u o)) told (loaded.read.same u o)) (not_store e told.never_store)
+    answered_by k old new part c (Refused (refusal_of e)) loaded.read
+    (λ u o. refuses_step c f s part e (k.tables old) (k.tables new) does (loaded.fits u (loaded.read.opens u o)) told (loaded.read.same u o)) (not_store e told.never_store)
 
 -- a call of the part of an open keeper that is refused serves each command whose refusal it is
 pub refused_call : {K : Type 0} (k : Ghosts K) (at : K) (s : Scope) (part : PartView) (e : Refusal) (c : Command) (f : Replica → After)

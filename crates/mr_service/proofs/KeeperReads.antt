@@ -106,7 +106,8 @@ read_next k a b z x result first next =
     }
 
 -- what is made of what was read: a refusal of it is none of the store's
-pub read_made : {K X Y : Type 0} (k : Ghosts K) (a z : K) (x : X) (result : Result Y Refusal) → IsRead k a z (Ok x) → IfErr result (λ e. ¬ (Refused (refusal_of e) ≡ Refused model.Store)) → IsRead k a z result
+pub read_made : {K X Y : Type 0} (k : Ghosts K) (a z : K) (x : X) (result : Result Y Refusal) → IsRead k a z (Ok x)
+    → IfErr result (λ e. ¬ (Refused (refusal_of e) ≡ Refused model.Store)) → IsRead k a z result
 read_made k a z x (Ok y) read not_store =
     record {
       clean = read.clean;
@@ -265,7 +266,8 @@ refused_by k old new e c read answered step =
     }
 
 -- a read for which memory or the store failed serves every command
-pub failed_by : {K X : Type 0} (k : Ghosts K) (old new : K) (e : Refusal) (c : Command) → IsRead {X = X} k old new (Err e) → IsOfMachine (Refused (refusal_of e)) → IsServed k old new c (Refused (refusal_of e))
+pub failed_by : {K X : Type 0} (k : Ghosts K) (old new : K) (e : Refusal) (c : Command) → IsRead {X = X} k old new (Err e)
+    → IsOfMachine (Refused (refusal_of e)) → IsServed k old new c (Refused (refusal_of e))
 failed_by k old new e c read machine = refused_by k old new e c read (λ u. inr (anywhere_failed c e machine)) (λ u o a h. (a, inr (machine, refl), subst (λ t. Stands t a) (sym (read.same u o)) h))
 
 -- a read that failed serves every command, by the refusal that tells of the failure

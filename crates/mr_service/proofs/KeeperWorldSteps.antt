@@ -7,7 +7,8 @@ use Rattle.mr_model.specs.Replica.{Replica, opening}
 use Rattle.mr_model.specs.Refusals.{OutOfMemory}
 use Rattle.mr_model.specs.Replies.{Reply, Refused}
 use Rattle.mr_model.specs.Step.{Command, Receive, step}
-use Rattle.mr_model.specs.World.{World, Step, Add, Do, Deliver, StepReply, Added, There, NoReplica, NoBatch, Said, replica_of, add_replica, do_at, deliver_to, with_after, batch_numbered, put_replica, primary_among, world_step, unchanged}
+use Rattle.mr_model.specs.World.{World, Step, Add, Do, Deliver, StepReply, Added, There, NoReplica, NoBatch, Said, replica_of, add_replica}
+use Rattle.mr_model.specs.World.{do_at, deliver_to, with_after, batch_numbered, put_replica, primary_among, world_step, unchanged}
 use Rattle.mr_model.specs.Honest.{IsLocal, IsWorldCommand, IsWorldStep}
 use Rattle.mr_service.specs.declared.commands.Local.{Local}
 use Rattle.mr_service.specs.declared.commands.Local.TheVariants as local
@@ -43,7 +44,8 @@ is_local (local.Errors room) = tt
 
 -- ---- a replica that is there answers, and takes the place of what it was
 
-replaced : (ms : List MemberView) (pool : List Text) (s : ℕ) (c : Command) (st : Step) (m after : MemberView) (reply : Reply) → IsWorldCommand st → member_index ms s < length ms → m ≡ get_or ms (member_index ms s) m
+replaced : (ms : List MemberView) (pool : List Text) (s : ℕ) (c : Command) (st : Step) (m after : MemberView) (reply : Reply)
+    → IsWorldCommand st → member_index ms s < length ms → m ≡ get_or ms (member_index ms s) m
     → AnswersInMemory m c reply after
     → ((w : World) (r : Replica) → StandsForWorld (world ms pool) w → replica_of w s ≡ Some r → world_step w st ≡ with_after w (step r c))
     → TakesWorldStep (world ms pool) st (Said reply) (world (slice_set ms (member_index ms s) after) pool)
@@ -62,7 +64,10 @@ replaced ms pool s c st m after reply command low is answers steps w stands = go
     go (inr (e, there)) = (
       w,
       (command, inr (ap Said e, refl)),
-      record { replicas = subst (StandForAll (slice_set ms (member_index ms s) after)) (put_itself w.replicas f.replica s f.its_server f.found) (f.put after f.replica there f.its_server); pool = stands.pool },
+      record {
+        replicas = subst (StandForAll (slice_set ms (member_index ms s) after)) (put_itself w.replicas f.replica s f.its_server f.found) (f.put after f.replica there f.its_server);
+        pool = stands.pool;
+      },
     )
 
 -- ---- each kind of step
@@ -94,14 +99,16 @@ pub deliver_nobody : (ms : List MemberView) (pool : List Text) (batch s n : ℕ)
 deliver_nobody ms pool batch s n low =
     stays (world ms pool) (Deliver batch s n) NoReplica tt (λ w stands. ap (λ o. deliver_to w o (batch_numbered w.pool batch) n) (found_none ms w.replicas s stands.replicas low))
 
-pub deliver_nothing : (ms : List MemberView) (pool : List Text) (batch s n : ℕ) → member_index ms s < length ms → batch_numbered pool batch ≡ None → TakesWorldStep (world ms pool) (Deliver batch s n) NoBatch (world ms pool)
+pub deliver_nothing : (ms : List MemberView) (pool : List Text) (batch s n : ℕ) → member_index ms s < length ms
+    → batch_numbered pool batch ≡ None → TakesWorldStep (world ms pool) (Deliver batch s n) NoBatch (world ms pool)
 deliver_nothing ms pool batch s n low none =
     stays (world ms pool) (Deliver batch s n) NoBatch tt
     (λ w stands. let f = found_at ms w.replicas s stands.replicas low in
     (λ i. deliver_to w (f.found i) (batch_numbered w.pool batch) n) ∙ ap (λ o. deliver_to w (Some f.replica) o n) (ap (λ p. batch_numbered p batch) (sym stands.pool) ∙ none))
 
 pub deliver_one : (ms : List MemberView) (pool : List Text) (batch s n : ℕ) (bytes : Text) (m after : MemberView) (reply : Reply) → member_index ms s < length ms → m ≡ get_or ms (member_index ms s) m
-    → batch_numbered pool batch ≡ Some bytes → AnswersInMemory m (Receive (take n bytes)) reply after → TakesWorldStep (world ms pool) (Deliver batch s n) (Said reply) (world (slice_set ms (member_index ms s) after) pool)
+    → batch_numbered pool batch ≡ Some bytes → AnswersInMemory m (Receive (take n bytes)) reply after
+    → TakesWorldStep (world ms pool) (Deliver batch s n) (Said reply) (world (slice_set ms (member_index ms s) after) pool)
 deliver_one ms pool batch s n bytes m after reply low is there answers =
     replaced ms pool s (Receive (take n bytes)) (Deliver batch s n) m after reply tt low is answers
     (λ w r stands e. (λ i. deliver_to w (e i) (batch_numbered w.pool batch) n) ∙ ap (λ o. deliver_to w (Some r) o n) (ap (λ p. batch_numbered p batch) (sym stands.pool) ∙ there))
@@ -128,7 +135,8 @@ do_found ms pool s k l m after reply f is answers =
     (do_one ms pool s l m after reply f.low (is ∙ ap (λ i. get_or ms i m) f.place) answers)
 
 pub deliver_found : (ms : List MemberView) (pool : List Text) (batch s n k : ℕ) (bytes front : Text) (m after : MemberView) (reply : Reply) → IsFound ms s k → m ≡ get_or ms k m
-    → batch_numbered pool batch ≡ Some bytes → front ≡ take n bytes → AnswersInMemory m (Receive front) reply after → TakesWorldStep (world ms pool) (Deliver batch s n) (Said reply) (world (slice_set ms k after) pool)
+    → batch_numbered pool batch ≡ Some bytes → front ≡ take n bytes → AnswersInMemory m (Receive front) reply after
+    → TakesWorldStep (world ms pool) (Deliver batch s n) (Said reply) (world (slice_set ms k after) pool)
 deliver_found ms pool batch s n k bytes front m after reply f is there cut answers =
     subst (λ i. TakesWorldStep (world ms pool) (Deliver batch s n) (Said reply) (world (slice_set ms i after) pool)) (sym f.place)
     (deliver_one ms pool batch s n bytes m after reply f.low (is ∙ ap (λ i. get_or ms i m) f.place) there (subst (λ (t : Text). AnswersInMemory m (Receive t) reply after) cut answers))

@@ -62,7 +62,8 @@ history_kept first last steps replies h run =
       commits = λ at r e. (honest_replica last at r k.0 e).one_primary;
       writes_anywhere = λ write known. known_accepted last write k.0 known;
       commits_anywhere = λ number text b seq id e reads there. commits_anywhere last number text b seq id k.0 e reads there;
-      one_write = λ x y kx ky e. one_write last x y k.0 (front_contains (accepted first x.stamp.server) (accepted last x.stamp.server) x (k.1.accepts x.stamp.server) (known_accepted first x h kx)) (known_accepted last y k.0 ky) e;
+      one_write = λ x y kx ky e. one_write last x y k.0
+          (front_contains (accepted first x.stamp.server) (accepted last x.stamp.server) x (k.1.accepts x.stamp.server) (known_accepted first x h kx)) (known_accepted last y k.0 ky) e;
       accepted_stays = k.1.accepts;
       committed_stays = k.1.commits;
     }

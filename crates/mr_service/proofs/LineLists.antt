@@ -9,7 +9,8 @@ use Rattle.std.specs.Prelude.{OnOk, Result, Ok, Err}
 use Rattle.mr_model.specs.Texts.{Text, line, lines_text}
 
 -- the line of one item more, behind those of the items so far
-pub lines_more : {A B : Type 0} (f : B → Text) (g : A → B) (before now after : Text) (xs : List A) (i : ℕ) (x : A) → now ≡ before ++ lines_text (map f (map g (take i xs))) → after ≡ now ++ line (f (g x)) → x ≡ get_or xs i x → i < length xs → after ≡ before ++ lines_text (map f (map g (take (i + 1) xs)))
+pub lines_more : {A B : Type 0} (f : B → Text) (g : A → B) (before now after : Text) (xs : List A) (i : ℕ) (x : A) → now ≡ before ++ lines_text (map f (map g (take i xs)))
+    → after ≡ now ++ line (f (g x)) → x ≡ get_or xs i x → i < length xs → after ≡ before ++ lines_text (map f (map g (take (i + 1) xs)))
 lines_more {A} {B} f g before now after xs i x so_far one at l =
     one ∙ ap (λ t. t ++ line (f (g x))) so_far
     ∙ append_assoc before (lines_text (map f (map g (take i xs)))) (line (f (g x)))
@@ -31,14 +32,16 @@ on_ok (Ok x) P Q f h = f h
 on_ok (Err e) P Q f h = tt
 
 -- the same of items that are seen as others first
-pub lines_more_of : {A B C : Type 0} (f : B → Text) (g : C → B) (h : A → C) (before now after : Text) (xs : List A) (i : ℕ) (x : A) → now ≡ before ++ lines_text (map f (map g (map h (take i xs)))) → after ≡ now ++ line (f (g (h x))) → x ≡ get_or xs i x → i < length xs
+pub lines_more_of : {A B C : Type 0} (f : B → Text) (g : C → B) (h : A → C) (before now after : Text) (xs : List A) (i : ℕ) (x : A)
+    → now ≡ before ++ lines_text (map f (map g (map h (take i xs)))) → after ≡ now ++ line (f (g (h x))) → x ≡ get_or xs i x → i < length xs
     → after ≡ before ++ lines_text (map f (map g (map h (take (i + 1) xs))))
 lines_more_of f g h before now after xs i x so_far one at l =
     lines_more f (λ z. g (h z)) before now after xs i x (so_far ∙ ap (λ ys. before ++ lines_text (map f ys)) (map-map g h (take i xs))) one at l
     ∙ ap (λ ys. before ++ lines_text (map f ys)) (sym (map-map g h (take (i + 1) xs)))
 
 -- what is made of those that pass a test, and of one item more
-pub picked_more : {A B : Type 0} (f : A → B) (p : A → Bool) (before now after : List B) (xs : List A) (x : A) → now ≡ before ++ map f (filter p xs) → after ≡ now ++ map f (filter p (x ∷ [])) → after ≡ before ++ map f (filter p (xs ++ x ∷ []))
+pub picked_more : {A B : Type 0} (f : A → B) (p : A → Bool) (before now after : List B) (xs : List A) (x : A)
+    → now ≡ before ++ map f (filter p xs) → after ≡ now ++ map f (filter p (x ∷ [])) → after ≡ before ++ map f (filter p (xs ++ x ∷ []))
 picked_more f p before now after xs x so_far one =
     one ∙ ap (λ ys. ys ++ map f (filter p (x ∷ []))) so_far
     ∙ append_assoc before (map f (filter p xs)) (map f (filter p (x ∷ [])))

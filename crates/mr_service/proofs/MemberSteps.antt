@@ -65,7 +65,8 @@ told_position (PositionIs p) d = p
 told_position _ d = d
 
 -- the position that is replied is the replica's
-pub position_told : (m after : MemberView) (reply : Reply) (text : Text) → AnswersInMemory m AskPosition reply after → IsPositionText reply text → (r : Replica) → StandsForMember m r → text ≡ position_text (position_of r)
+pub position_told : (m after : MemberView) (reply : Reply) (text : Text) → AnswersInMemory m AskPosition reply after
+    → IsPositionText reply text → (r : Replica) → StandsForMember m r → text ≡ position_text (position_of r)
 unfolding told_position
 position_told m after reply text said (p, is, written) r h = go (said r h)
   where
@@ -74,10 +75,12 @@ position_told m after reply text said (p, is, written) r h = go (said r h)
     go (inr q) = absurd (position_not_refused p (sym is ∙ q.0))
 
 -- so is the batch
-pub batch_told : (m after : MemberView) (reply : Reply) (position text : Text) (n : ℕ) → AnswersInMemory m (BatchFor position n) reply after → IsBatchText reply text → (r : Replica) → StandsForMember m r → IsBatchText (reply_to_position r (read_position position) n) text
+pub batch_told : (m after : MemberView) (reply : Reply) (position text : Text) (n : ℕ) → AnswersInMemory m (BatchFor position n) reply after
+    → IsBatchText reply text → (r : Replica) → StandsForMember m r → IsBatchText (reply_to_position r (read_position position) n) text
 batch_told m after reply position text n said (b, is, written) r h = go (said r h)
   where
-    go : ((reply ≡ reply_to_position r (read_position position) n) × StandsForMember after r) ⊎ ((reply ≡ Refused OutOfMemory) × StandsForMember after r) → IsBatchText (reply_to_position r (read_position position) n) text
+    go : ((reply ≡ reply_to_position r (read_position position) n) × StandsForMember after r) ⊎ ((reply ≡ Refused OutOfMemory) × StandsForMember after r)
+        → IsBatchText (reply_to_position r (read_position position) n) text
     go (inl q) = (b, sym q.0 ∙ is, written)
     go (inr q) = absurd (batch_not_refused b (sym is ∙ q.0))
 
@@ -85,24 +88,28 @@ refusal_in : Reply → Refusal → Refusal
 refusal_in (Refused x) d = x
 refusal_in _ d = d
 
-pub refusal_told : (m after : MemberView) (reply : Reply) (position : Text) (n : ℕ) (e : Refusal) → AnswersInMemory m (BatchFor position n) reply after → (reply ≡ Refused e) ⊎ (e ≡ OutOfMemory) → (r : Replica) → StandsForMember m r
+pub refusal_told : (m after : MemberView) (reply : Reply) (position : Text) (n : ℕ) (e : Refusal)
+    → AnswersInMemory m (BatchFor position n) reply after → (reply ≡ Refused e) ⊎ (e ≡ OutOfMemory) → (r : Replica) → StandsForMember m r
     → (reply_to_position r (read_position position) n ≡ Refused e) ⊎ (e ≡ OutOfMemory)
 unfolding refusal_in
 refusal_told m after reply position n e said (inr none) r h = inr none
 refusal_told m after reply position n e said (inl is) r h = go (said r h)
   where
-    go : ((reply ≡ reply_to_position r (read_position position) n) × StandsForMember after r) ⊎ ((reply ≡ Refused OutOfMemory) × StandsForMember after r) → (reply_to_position r (read_position position) n ≡ Refused e) ⊎ (e ≡ OutOfMemory)
+    go : ((reply ≡ reply_to_position r (read_position position) n) × StandsForMember after r) ⊎ ((reply ≡ Refused OutOfMemory) × StandsForMember after r)
+        → (reply_to_position r (read_position position) n ≡ Refused e) ⊎ (e ≡ OutOfMemory)
     go (inl q) = inl (sym q.0 ∙ is)
     go (inr q) = inr (ap (λ x. refusal_in x e) (sym is ∙ q.0))
 
 -- ---- the same of what the calls answer
 
-pub position_texts : {V E : Type 0} (m after : MemberView) (reply : Reply) (text : V → Text) (result : Result V E) → AnswersInMemory m AskPosition reply after → IfOk result (λ v. IsPositionText reply (text v)) → (r : Replica) → StandsForMember m r
+pub position_texts : {V E : Type 0} (m after : MemberView) (reply : Reply) (text : V → Text) (result : Result V E)
+    → AnswersInMemory m AskPosition reply after → IfOk result (λ v. IsPositionText reply (text v)) → (r : Replica) → StandsForMember m r
     → IfOk result (λ v. text v ≡ position_text (position_of r))
 position_texts m after reply text (Ok v) said told r h = position_told m after reply (text v) said told r h
 position_texts m after reply text (Err e) said told r h = tt
 
-pub batch_texts : {V E : Type 0} (m after : MemberView) (reply : Reply) (position : Text) (n : ℕ) (text : V → Text) (result : Result V E) → AnswersInMemory m (BatchFor position n) reply after → IfOk result (λ v. IsBatchText reply (text v))
+pub batch_texts : {V E : Type 0} (m after : MemberView) (reply : Reply) (position : Text) (n : ℕ) (text : V → Text) (result : Result V E)
+    → AnswersInMemory m (BatchFor position n) reply after → IfOk result (λ v. IsBatchText reply (text v))
     → (r : Replica) → StandsForMember m r → IfOk result (λ v. IsBatchText (reply_to_position r (read_position position) n) (text v))
 batch_texts m after reply position n text (Ok v) said told r h = batch_told m after reply position (text v) n said told r h
 batch_texts m after reply position n text (Err e) said told r h = tt

@@ -1,5 +1,6 @@
 -- From the rows of the error log and of cancels, and the row of one write, to what the view of a replica tells of a room.
-use Rattle.std.proofs.Common.{◌≡◌, refl, sym, ap, ◌∙◌, subst, ℕ, ◌<◌, Bool, true, false, not, cond, ◌&&◌, eqb, List, [], ◌∷◌, map, ◌⊎◌, inl, inr, Some, None, Option, arith, lt-ltb, eq-eqb, ne_eqb, is_lt, nat_cmp}
+use Rattle.std.proofs.Common.{◌≡◌, refl, sym, ap, ◌∙◌, subst, ℕ, ◌<◌, Bool, true, false, not, cond, ◌&&◌, eqb, List, [], ◌∷◌}
+use Rattle.std.proofs.Common.{map, ◌⊎◌, inl, inr, Some, None, Option, arith, lt-ltb, eq-eqb, ne_eqb, is_lt, nat_cmp}
 use Rattle.std.proofs.lemmas.Bool.{true≢false, and_parts, and_from, false_from_ne_true}
 use Rattle.std.specs.List.{filter, filter_map, find}
 use Rattle.std.specs.List.Sorted.{IsPermutation, IsSortedByKey}
@@ -14,7 +15,8 @@ use Rattle.mr_model.specs.View.{view_of, whole_list, logging_of, told_of, outcom
 use Rattle.mr_model.specs.Tables.{BookingRow, ErrorRow, CancelledRow, CancelRow, PlaceRow, tables_of}
 use Rattle.mr_model.specs.Tables as rows
 use Rattle.mr_model.specs.Dropped.{Has}
-use Rattle.mr_model.specs.Queries.{LogLine, OfLogged, OfVoid, line_seq, line_time, line_server, line_logging, LineBefore, both, one, none, AreInLogOrder, IsLineOf, booking_id, error_id, cancelled_id, cancel_id, cancelled_outcome, IsCancelOf, IsRowIn, row_id, row_room}
+use Rattle.mr_model.specs.Queries.{LogLine, OfLogged, OfVoid, line_seq, line_time, line_server, line_logging, LineBefore, both, one, none, AreInLogOrder}
+use Rattle.mr_model.specs.Queries.{IsLineOf, booking_id, error_id, cancelled_id, cancel_id, cancelled_outcome, IsCancelOf, IsRowIn, row_id, row_room}
 use Rattle.mr_model.proofs.Members.{has_filter, filter_has, has_map, map_has, has_left, has_right, has_split, find_has, has_all, all_has, Sorted, sorted_filter, same_id-true, same_id_from}
 use Rattle.mr_model.proofs.Runs.{sorted_append}
 use Rattle.mr_model.proofs.RowsTell.{cancelled_tell, none_in_room}
@@ -26,7 +28,7 @@ use Rattle.mr_tables.specs.Cells.{place_row_of}
 use Rattle.mr_store.specs.Picked.{picked_errors, picked_cancels, IsPlaceOf}
 use Rattle.mr_service.specs.Asked.{log_line_seen}
 use Rattle.mr_service.specs.declared.replies.LogLine as replies
-use Rattle.mr_service.specs.Questions.{lines_of, log_key, line_key, log_key_cmp, row_of_cancel}
+use Rattle.mr_service.specs.Questions.{lines_of, log_line_key, line_key, log_key_cmp, row_of_cancel}
 use Rattle.mr_service.proofs.OneRow.{one_place}
 use Rattle.mr_service.proofs.RowOrder.{either_before, permuted_has, has_permuted, table_apart, permuted_apart, in_strict_order}
 use Rattle.mr_replay.proofs.Lists.{one_name, same_name}
@@ -52,21 +54,28 @@ line_transitive a b c (none p q l) (both u v) = absurd (omega (arith, q, u))
 line_transitive a b c (none p q l) (one u v) = absurd (omega (arith, q, u))
 line_transitive a b c (none p q l) (none u v m) = none p v (go l m)
   where
-    go : (line_time a < line_time b) ⊎ ((line_time a ≡ line_time b) × (line_server a < line_server b)) → (line_time b < line_time c) ⊎ ((line_time b ≡ line_time c) × (line_server b < line_server c)) → (line_time a < line_time c) ⊎ ((line_time a ≡ line_time c) × (line_server a < line_server c))
+    go : (line_time a < line_time b) ⊎ ((line_time a ≡ line_time b) × (line_server a < line_server b)) → (line_time b < line_time c)
+        ⊎ ((line_time b ≡ line_time c) × (line_server b < line_server c)) → (line_time a < line_time c) ⊎ ((line_time a ≡ line_time c) × (line_server a < line_server c))
     go (inl x) (inl y) = inl (omega (arith, x, y))
     go (inl x) (inr y) = inl (let e = y.0 in omega (arith, x, e))
     go (inr x) (inl y) = inl (let e = x.0 in omega (arith, y, e))
     go (inr x) (inr y) = inr (x.0 ∙ y.0, omega (arith, x.1, y.1))
 
 -- the keys come in the order of the log
-key_tested : (a b : LogLine) → LineBefore a b → is_lt (log_key_cmp (log_key a) (log_key b)) ≡ true
+key_tested : (a b : LogLine) → LineBefore a b → is_lt (log_key_cmp (log_line_key a) (log_line_key b)) ≡ true
 key_tested a b (both p q) =
     rw (ne_eqb (line_seq a) 0 (λ z. omega (arith, p, z)), ne_eqb (line_seq b) 0 (λ z. omega (arith, p, q, z)), number_less (line_seq a) (line_seq b) q) refl
 key_tested a b (one p q) = rw (ne_eqb (line_seq a) 0 (λ z. omega (arith, p, z)), eq-eqb (line_seq b) 0 q) refl
 key_tested a b (none p q (inl l)) =
     rw (eq-eqb (line_seq a) 0 p, eq-eqb (line_seq b) 0 q, number_same (line_seq a) (line_seq b) (p ∙ sym q), number_less (line_time a) (line_time b) l) refl
 key_tested a b (none p q (inr l)) =
-    rw (eq-eqb (line_seq a) 0 p, eq-eqb (line_seq b) 0 q, number_same (line_seq a) (line_seq b) (p ∙ sym q), number_same (line_time a) (line_time b) l.0, number_less (line_server a) (line_server b) l.1) refl
+    rw (
+      eq-eqb (line_seq a) 0 p,
+      eq-eqb (line_seq b) 0 q,
+      number_same (line_seq a) (line_seq b) (p ∙ sym q),
+      number_same (line_time a) (line_time b) l.0,
+      number_less (line_server a) (line_server b) l.1,
+    ) refl
 
 -- one order in the words of the law
 log_order : (ls : List LogLine) → Sorted LineBefore ls → AreInLogOrder ls
@@ -75,8 +84,11 @@ log_order (x ∷ xs) s = (s.0, log_order xs s.1)
 
 lines_mapped : (ls : List replies.LogLine) → Sorted (λ x y. LineBefore (log_line_seen x) (log_line_seen y)) ls → Sorted LineBefore (map log_line_seen ls)
 lines_mapped [] s = tt
-lines_mapped (x ∷ xs) s =
-    (has_all (LineBefore (log_line_seen x)) (map log_line_seen xs) (λ l a. let (y, b, e) = map_has log_line_seen l xs a in subst (LineBefore (log_line_seen x)) (sym e) (all_has (λ z. LineBefore (log_line_seen x) (log_line_seen z)) y xs s.0 b)), lines_mapped xs s.1)
+lines_mapped (x ∷ xs) s = (
+  has_all (LineBefore (log_line_seen x)) (map log_line_seen xs) (λ l a. let (y, b, e) = map_has log_line_seen l xs a in
+      subst (LineBefore (log_line_seen x)) (sym e) (all_has (λ z. LineBefore (log_line_seen x) (log_line_seen z)) y xs s.0 b)),
+  lines_mapped xs s.1,
+)
 
 -- ---- its lines
 
@@ -114,12 +126,14 @@ module _ (r : Replica) (room : Text) (requests : List ErrorRow) (cancels : List 
   is_line : (l : LogLine) → IsLineOf r room l → Has l (lines_of requests cancels)
   is_line (OfLogged row) p =
       has_left (OfLogged row) (map (λ x. OfLogged x) requests) _
-      (has_map (λ x. OfLogged x) row requests (permuted_has row (picked_errors room (tables_of r)) requests are.requests_are (has_filter (λ (x : ErrorRow). bytes_eq x.room room) row (tables_of r).errorlog (same_name row.room room p.1) p.0)))
+      (has_map (λ x. OfLogged x) row requests (permuted_has row (picked_errors room (tables_of r)) requests are.requests_are
+      (has_filter (λ (x : ErrorRow). bytes_eq x.room room) row (tables_of r).errorlog (same_name row.room room p.1) p.0)))
   is_line (OfVoid row) p =
       has_right (OfVoid row) (map (λ x. OfLogged x) requests) _
       (has_map (λ x. OfVoid x) row (filter (λ (x : CancelRow). not x.done) cancels)
       (has_filter (λ (x : CancelRow). not x.done) row cancels p.2
-      (permuted_has row (picked_cancels room (tables_of r)) cancels are.cancels_are (has_filter (λ (x : CancelRow). bytes_eq x.room room) row (tables_of r).cancels (same_name row.room room p.1) p.0))))
+      (permuted_has row (picked_cancels room (tables_of r)) cancels are.cancels_are
+      (has_filter (λ (x : CancelRow). bytes_eq x.room room) row (tables_of r).cancels (same_name row.room room p.1) p.0))))
 
   -- they are of different ids
   lines_apart : Sorted (λ x y. same_id (line_id x) (line_id y) ≡ false) (lines_of requests cancels)
@@ -132,7 +146,8 @@ module _ (r : Replica) (room : Text) (requests : List ErrorRow) (cancels : List 
       (permuted_apart cancel_id (picked_cancels room (tables_of r)) cancels are.cancels_are (table_apart cancel_id (λ x. bytes_eq x.room room) (tables_of r).cancels (tables_in_order r h).cancels))))
       across
     where
-      made_apart : {R : Type 0} (key : R → Id) (make : R → LogLine) (xs : List R) → ((x : R) → line_id (make x) ≡ key x) → Sorted (λ x y. same_id (key x) (key y) ≡ false) xs → Sorted (λ x y. same_id (line_id x) (line_id y) ≡ false) (map make xs)
+      made_apart : {R : Type 0} (key : R → Id) (make : R → LogLine) (xs : List R) → ((x : R) → line_id (make x) ≡ key x)
+          → Sorted (λ x y. same_id (key x) (key y) ≡ false) xs → Sorted (λ x y. same_id (line_id x) (line_id y) ≡ false) (map make xs)
       made_apart key make [] e s = tt
       made_apart key make (x ∷ xs) e s = (
         has_all (λ l. same_id (line_id (make x)) (line_id l) ≡ false) (map make xs)
@@ -140,7 +155,8 @@ module _ (r : Replica) (room : Text) (requests : List ErrorRow) (cancels : List 
         made_apart key make xs e s.1,
       )
 
-      across : (x y : LogLine) → Has x (map (λ row. OfLogged row) requests) → Has y (map (λ row. OfVoid row) (filter (λ (row : CancelRow). not row.done) cancels)) → same_id (line_id x) (line_id y) ≡ false
+      across : (x y : LogLine) → Has x (map (λ row. OfLogged row) requests)
+          → Has y (map (λ row. OfVoid row) (filter (λ (row : CancelRow). not row.done) cancels)) → same_id (line_id x) (line_id y) ≡ false
       across x y a b =
           false_from_ne_true (same_id (line_id x) (line_id y))
           (λ e.
@@ -152,7 +168,8 @@ module _ (r : Replica) (room : Text) (requests : List ErrorRow) (cancels : List 
           in
           cc bad)
 
-  log_all : (lines : List replies.LogLine) → IsPermutation (lines_of requests cancels) (map log_line_seen lines) → IsSortedByKey line_key log_key_cmp lines → filter_map logging_of (whole_list (view_of r room)) ≡ map line_logging (map log_line_seen lines)
+  log_all : (lines : List replies.LogLine) → IsPermutation (lines_of requests cancels) (map log_line_seen lines)
+      → IsSortedByKey line_key log_key_cmp lines → filter_map logging_of (whole_list (view_of r room)) ≡ map line_logging (map log_line_seen lines)
   log_all lines moved up =
       errors_told r room (map log_line_seen lines) h
       (log_order (map log_line_seen lines)
@@ -162,7 +179,8 @@ module _ (r : Replica) (room : Text) (requests : List ErrorRow) (cancels : List 
       lines (sorted_map (λ x y. same_id (line_id x) (line_id y) ≡ false) log_line_seen lines (permuted_apart line_id (lines_of requests cancels) (map log_line_seen lines) moved lines_apart)) up
       (λ x y a b apart.
       either_before LineBefore (log_line_seen x) (log_line_seen y) (room_lines r room) (lines_sorted r room h)
-      (is_of_line r room (log_line_seen x) h (is_given (log_line_seen x) (has_map log_line_seen x lines a))) (is_of_line r room (log_line_seen y) h (is_given (log_line_seen y) (has_map log_line_seen y lines b)))
+      (is_of_line r room (log_line_seen x) h (is_given (log_line_seen x) (has_map log_line_seen x lines a)))
+      (is_of_line r room (log_line_seen y) h (is_given (log_line_seen y) (has_map log_line_seen y lines b)))
       (λ e. true≢false (sym (same_id_from (line_id (log_line_seen x)) (line_id (log_line_seen y)) (ap line_id e)) ∙ apart))))))
       (λ l. (is_given l, λ p. permuted_has l (lines_of requests cancels) (map log_line_seen lines) moved (is_line l p)))
     where
@@ -211,13 +229,18 @@ place_found r room id (place.Cancel row) is = found_row r room id cancel_id (λ 
 pub no_place_told : (r : Replica) (room : Text) (id : Id) → IsReplica r → IsPlaceOf room id (tables_of r) None → outcome_reply (told_of id (whole_list (view_of r room))) ≡ Refused NoSuchRequest
 no_place_told r room id h is =
     none_in_room r room id h
-    (λ row a own e. none_found (λ (x : BookingRow). same_id (booking_id x) id && bytes_eq x.room room) row (tables_of r).booking is.0 a (and_from (same_id (booking_id row) id) (bytes_eq row.room room) (same_id_from (booking_id row) id e) (same_name row.room room own)))
-    (λ row a own e. none_found (λ (x : ErrorRow). same_id (error_id x) id && bytes_eq x.room room) row (tables_of r).errorlog is.1 a (and_from (same_id (error_id row) id) (bytes_eq row.room room) (same_id_from (error_id row) id e) (same_name row.room room own)))
-    (λ row a own e. none_found (λ (x : CancelledRow). same_id (cancelled_id x) id && bytes_eq x.room room) row (tables_of r).cancelled is.2 a (and_from (same_id (cancelled_id row) id) (bytes_eq row.room room) (same_id_from (cancelled_id row) id e) (same_name row.room room own)))
-    (λ row a own e. none_found (λ (x : CancelRow). same_id (cancel_id x) id && bytes_eq x.room room) row (tables_of r).cancels is.3 a (and_from (same_id (cancel_id row) id) (bytes_eq row.room room) (same_id_from (cancel_id row) id e) (same_name row.room room own)))
+    (λ row a own e. none_found (λ (x : BookingRow). same_id (booking_id x) id && bytes_eq x.room room) row (tables_of r).booking is.0 a
+    (and_from (same_id (booking_id row) id) (bytes_eq row.room room) (same_id_from (booking_id row) id e) (same_name row.room room own)))
+    (λ row a own e. none_found (λ (x : ErrorRow). same_id (error_id x) id && bytes_eq x.room room) row (tables_of r).errorlog is.1 a
+    (and_from (same_id (error_id row) id) (bytes_eq row.room room) (same_id_from (error_id row) id e) (same_name row.room room own)))
+    (λ row a own e. none_found (λ (x : CancelledRow). same_id (cancelled_id x) id && bytes_eq x.room room) row (tables_of r).cancelled is.2 a
+    (and_from (same_id (cancelled_id row) id) (bytes_eq row.room room) (same_id_from (cancelled_id row) id e) (same_name row.room room own)))
+    (λ row a own e. none_found (λ (x : CancelRow). same_id (cancel_id x) id && bytes_eq x.room room) row (tables_of r).cancels is.3 a
+    (and_from (same_id (cancel_id row) id) (bytes_eq row.room room) (same_id_from (cancel_id row) id e) (same_name row.room room own)))
 
 -- a booking that was taken back has the row of its cancel, which a keeper finds in the room
-pub cancel_found : (r : Replica) (room : Text) (row : CancelledRow) (found : Option code.PlaceRow) → IsReplica r → Has row (tables_of r).cancelled → row.room ≡ room → IsPlaceOf room row.by (tables_of r) found
+pub cancel_found : (r : Replica) (room : Text) (row : CancelledRow) (found : Option code.PlaceRow) → IsReplica r
+    → Has row (tables_of r).cancelled → row.room ≡ room → IsPlaceOf room row.by (tables_of r) found
     → (c : CancelRow) × (row_of_cancel found ≡ Some c) × (outcome_reply (told_of (cancelled_id row) (whole_list (view_of r room))) ≡ OutcomeIs (cancelled_outcome row c))
 cancel_found r room row found h a own is = go found is
   where

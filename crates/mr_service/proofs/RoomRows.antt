@@ -15,7 +15,8 @@ use Rattle.mr_model.specs.Tables.{BookingRow, CancelledRow, CancelRow, as_booked
 use Rattle.mr_model.specs.Tables as rows
 use Rattle.mr_model.specs.Dropped.{Has}
 use Rattle.mr_model.specs.Queries.{row_entry, booking_id, cancelled_id, cancel_id, BookingBefore, AreInStartOrder, IsCommittedBooking, stands, back}
-use Rattle.mr_model.proofs.Members.{has_filter, filter_has, has_map, map_has, has_left, has_right, has_split, has_any, any_has, has_all, all_has, Sorted, sorted_same, sorted_filter, same_id-true, same_id_from}
+use Rattle.mr_model.proofs.Members.{has_filter, filter_has, has_map, map_has, has_left, has_right, has_split, has_any, any_has}
+use Rattle.mr_model.proofs.Members.{has_all, all_has, Sorted, sorted_same, sorted_filter, same_id-true, same_id_from}
 use Rattle.mr_model.proofs.SlotTests.{same_date_from}
 use Rattle.mr_model.proofs.Runs.{sorted_append}
 use Rattle.mr_model.proofs.RowsTell.{cancelled_tell, one_cancel}
@@ -31,31 +32,37 @@ use Rattle.mr_service.proofs.RowOrder.{either_before, permuted_has, has_permuted
 -- ---- picked rows
 
 -- what is picked are the rows of the room, and of the day where one is asked for
-picked_has : (r : Replica) (room : Text) (day : Option Date) (row : BookingRow) → Has row (picked_bookings room day (tables_of r)) → Has row (tables_of r).booking × (row.room ≡ room) × (is_day_asked day row.day ≡ true)
+picked_has : (r : Replica) (room : Text) (day : Option Date) (row : BookingRow) → Has row (picked_bookings room day (tables_of r))
+    → Has row (tables_of r).booking × (row.room ≡ room) × (is_day_asked day row.day ≡ true)
 picked_has r room day row a =
     let f = filter_has (λ (x : BookingRow). bytes_eq x.room room && is_day_asked day x.day) row (tables_of r).booking a in
     let p = and_parts (bytes_eq row.room room) (is_day_asked day row.day) f.1 in
     (f.0, one_name row.room room p.0, p.1)
 
-has_picked : (r : Replica) (room : Text) (day : Option Date) (row : BookingRow) → Has row (tables_of r).booking → row.room ≡ room → is_day_asked day row.day ≡ true → Has row (picked_bookings room day (tables_of r))
+has_picked : (r : Replica) (room : Text) (day : Option Date) (row : BookingRow) → Has row (tables_of r).booking
+    → row.room ≡ room → is_day_asked day row.day ≡ true → Has row (picked_bookings room day (tables_of r))
 has_picked r room day row a own asked =
-    has_filter (λ (x : BookingRow). bytes_eq x.room room && is_day_asked day x.day) row (tables_of r).booking (and_from (bytes_eq row.room room) (is_day_asked day row.day) (same_name row.room room own) asked) a
+    has_filter (λ (x : BookingRow). bytes_eq x.room room && is_day_asked day x.day) row (tables_of r).booking
+    (and_from (bytes_eq row.room room) (is_day_asked day row.day) (same_name row.room room own) asked) a
 
 -- ---- the order of a calendar
 
 -- the order of rows is that of their entries
 booking_trans : (a b c : BookingRow) → BookingBefore a b → BookingBefore b c → BookingBefore a c
-booking_trans a b c f g = entry_cases (row_entry a) (row_entry c) (entry_trans (row_entry a) (row_entry b) (row_entry c) (entry_from (row_entry a) (row_entry b) f) (entry_from (row_entry b) (row_entry c) g))
+booking_trans a b c f g =
+    entry_cases (row_entry a) (row_entry c) (entry_trans (row_entry a) (row_entry b) (row_entry c) (entry_from (row_entry a) (row_entry b) f) (entry_from (row_entry b) (row_entry c) g))
 
 -- rows in the strict order pass the keeper's test
 booking_tested : (a b : BookingRow) → BookingBefore a b → booking_before a b ≡ true
 booking_tested a b (inl e) = or_left (date_before a.day b.day) _ e
 booking_tested a b (inr e) =
     or_right (date_before a.day b.day) _
-    (and_from (same_date a.day b.day) _ (same_date_from a.day b.day e.0) (or_left (ltb a.start b.start) (eqb a.start b.start && (ltb a.server b.server || (eqb a.server b.server && ltb a.n b.n))) (lt-ltb a.start b.start e.1)))
+    (and_from (same_date a.day b.day) _ (same_date_from a.day b.day e.0)
+    (or_left (ltb a.start b.start) (eqb a.start b.start && (ltb a.server b.server || (eqb a.server b.server && ltb a.n b.n))) (lt-ltb a.start b.start e.1)))
 
 -- of two rows that a list shows in the order of entries, and that are of different ids, one is before the other
-either_shown : (x y : BookingRow) (es : List Entry) → Sorted EntryBefore es → Has (row_entry x) es → Has (row_entry y) es → same_id (booking_id x) (booking_id y) ≡ false → BookingBefore x y ⊎ BookingBefore y x
+either_shown : (x y : BookingRow) (es : List Entry) → Sorted EntryBefore es → Has (row_entry x) es
+    → Has (row_entry y) es → same_id (booking_id x) (booking_id y) ≡ false → BookingBefore x y ⊎ BookingBefore y x
 either_shown x y es sorted a b apart =
     go (either_before EntryBefore (row_entry x) (row_entry y) es sorted a b
     (λ e. true≢false (sym (same_id_from (booking_id x) (booking_id y) (ap (λ (f : Entry). f.id) e)) ∙ apart)))
@@ -67,7 +74,8 @@ either_shown x y es sorted a b apart =
 -- no two bookings of a room begin together, so that the rows are in the strict order
 bookings_sorted : (r : Replica) (room : Text) (day : Option Date) (rows : List BookingRow) → IsReplica r → AreBookings room day (tables_of r) rows → Sorted BookingBefore rows
 bookings_sorted r room day rows h are =
-    sorted_rows booking_id BookingBefore booking_before booking_trans booking_tested (λ x. bytes_eq x.room room && is_day_asked day x.day) (tables_of r).booking rows (tables_in_order r h).booking are.0 are.1
+    sorted_rows booking_id BookingBefore booking_before booking_trans booking_tested
+    (λ x. bytes_eq x.room room && is_day_asked day x.day) (tables_of r).booking rows (tables_in_order r h).booking are.0 are.1
     (λ x y a b apart.
     let p = picked_has r room day x a in
     let q = picked_has r room day y b in
@@ -90,7 +98,8 @@ calendar_rows r room rows h are =
     ))
 
 -- a day's sheet is the bookings of that day
-pub sheet_rows : (r : Replica) (room : Text) (day : Date) (rows : List BookingRow) → IsReplica r → AreBookings room (Some day) (tables_of r) rows → filter (λ e. same_date e.day day) (entries (whole_list (view_of r room))) ≡ map row_entry rows
+pub sheet_rows : (r : Replica) (room : Text) (day : Date) (rows : List BookingRow) → IsReplica r → AreBookings room (Some day) (tables_of r) rows
+    → filter (λ e. same_date e.day day) (entries (whole_list (view_of r room))) ≡ map row_entry rows
 sheet_rows r room day rows h are =
     sorted_same EntryBefore entry_irreflexive entry_trans (filter (λ e. same_date e.day day) whole) (map row_entry rows)
     (sorted_filter EntryBefore (λ e. same_date e.day day) whole (entries_sorted r room h)) (start_sorted rows (start_order rows (bookings_sorted r room (Some day) rows h are))) there back_to
@@ -103,7 +112,8 @@ sheet_rows r room day rows h are =
         let f = filter_has (λ (x : Entry). same_date x.day day) e (entries (whole_list (view_of r room))) a in
         let (row, b, own, s) = entry_has_row r room e h f.0 in
         subst (λ x. Has x (map row_entry rows)) (sym s)
-        (has_map row_entry row rows (permuted_has row (picked_bookings room (Some day) (tables_of r)) rows are.0 (has_picked r room (Some day) row b own (ap (λ (x : Entry). same_date x.day day) (sym s) ∙ f.1))))
+        (has_map row_entry row rows
+        (permuted_has row (picked_bookings room (Some day) (tables_of r)) rows are.0 (has_picked r room (Some day) row b own (ap (λ (x : Entry). same_date x.day day) (sym s) ∙ f.1))))
 
     back_to : (e : Entry) → Has e (map row_entry rows) → Has e (filter (λ (x : Entry). same_date x.day day) (entries (whole_list (view_of r room))))
     back_to e a =
@@ -136,7 +146,8 @@ module _ (r : Replica) (room : Text) (bookings : List BookingRow) (cancelled : L
   shown_is : (row : BookingRow) → Has row (committed_rows bookings cancelled cancels) → IsCommittedBooking r room row
   shown_is row a = go (has_split row (filter (λ (x : BookingRow). x.committed) bookings) _ a)
     where
-      go : Has row (filter (λ (x : BookingRow). x.committed) bookings) ⊎ Has row (map as_booked (filter (λ (x : CancelledRow). x.committed && has_tentative x.by cancels) cancelled)) → IsCommittedBooking r room row
+      go : Has row (filter (λ (x : BookingRow). x.committed) bookings)
+          ⊎ Has row (map as_booked (filter (λ (x : CancelledRow). x.committed && has_tentative x.by cancels) cancelled)) → IsCommittedBooking r room row
       go (inl b) =
           let f = filter_has (λ (x : BookingRow). x.committed) row bookings b in
           let p = of_booking row f.0 in
@@ -157,10 +168,12 @@ module _ (r : Replica) (room : Text) (bookings : List BookingRow) (cancelled : L
   is_shown row (back gone c a own mark b by zero is) =
       has_right row (filter (λ (x : BookingRow). x.committed) bookings) _
       (subst (λ x. Has x (map as_booked (filter (λ (x : CancelledRow). x.committed && has_tentative x.by cancels) cancelled))) (sym is)
-      (has_map as_booked gone _ (has_filter (λ (x : CancelledRow). x.committed && has_tentative x.by cancels) gone cancelled (and_from gone.committed (has_tentative gone.by cancels) mark tentative) given)))
+      (has_map as_booked gone _
+      (has_filter (λ (x : CancelledRow). x.committed && has_tentative x.by cancels) gone cancelled (and_from gone.committed (has_tentative gone.by cancels) mark tentative) given)))
     where
       given : Has gone cancelled
-      given = permuted_has gone (picked_cancelled room (tables_of r)) cancelled are.cancelled_are (has_filter (λ (x : CancelledRow). bytes_eq x.room room) gone (tables_of r).cancelled (same_name gone.room room own) a)
+      given = permuted_has gone (picked_cancelled room (tables_of r)) cancelled are.cancelled_are
+          (has_filter (λ (x : CancelledRow). bytes_eq x.room room) gone (tables_of r).cancelled (same_name gone.room room own) a)
 
       in_room : c.room ≡ room
       in_room =
@@ -177,23 +190,28 @@ module _ (r : Replica) (room : Text) (bookings : List BookingRow) (cancelled : L
   -- they are of different ids
   shown_apart : Sorted (λ x y. same_id (booking_id x) (booking_id y) ≡ false) (committed_rows bookings cancelled cancels)
   shown_apart =
-      sorted_append (λ x y. same_id (booking_id x) (booking_id y) ≡ false) (filter (λ (x : BookingRow). x.committed) bookings) (map as_booked (filter (λ (x : CancelledRow). x.committed && has_tentative x.by cancels) cancelled))
+      sorted_append (λ x y. same_id (booking_id x) (booking_id y) ≡ false) (filter (λ (x : BookingRow). x.committed) bookings)
+      (map as_booked (filter (λ (x : CancelledRow). x.committed && has_tentative x.by cancels) cancelled))
       (sorted_filter (λ x y. same_id (booking_id x) (booking_id y) ≡ false) (λ x. x.committed) bookings
-      (permuted_apart booking_id (picked_bookings room None (tables_of r)) bookings are.bookings_are (table_apart booking_id (λ x. bytes_eq x.room room && true) (tables_of r).booking (tables_in_order r h).booking)))
+      (permuted_apart booking_id (picked_bookings room None (tables_of r)) bookings are.bookings_are
+      (table_apart booking_id (λ x. bytes_eq x.room room && true) (tables_of r).booking (tables_in_order r h).booking)))
       (booked_apart (filter (λ (x : CancelledRow). x.committed && has_tentative x.by cancels) cancelled)
       (sorted_filter (λ x y. same_id (cancelled_id x) (cancelled_id y) ≡ false) (λ (x : CancelledRow). x.committed && has_tentative x.by cancels) cancelled
-      (permuted_apart cancelled_id (picked_cancelled room (tables_of r)) cancelled are.cancelled_are (table_apart cancelled_id (λ x. bytes_eq x.room room) (tables_of r).cancelled (tables_in_order r h).cancelled))))
+      (permuted_apart cancelled_id (picked_cancelled room (tables_of r)) cancelled are.cancelled_are
+      (table_apart cancelled_id (λ x. bytes_eq x.room room) (tables_of r).cancelled (tables_in_order r h).cancelled))))
       across
     where
       booked_apart : (gs : List CancelledRow) → Sorted (λ x y. same_id (cancelled_id x) (cancelled_id y) ≡ false) gs → Sorted (λ x y. same_id (booking_id x) (booking_id y) ≡ false) (map as_booked gs)
       booked_apart [] s = tt
       booked_apart (g ∷ gs) s = (
         has_all (λ y. same_id (booking_id (as_booked g)) (booking_id y) ≡ false) (map as_booked gs)
-            (λ y a. let (z, b, e) = map_has as_booked y gs a in subst (λ u. same_id (cancelled_id g) (booking_id u) ≡ false) (sym e) (all_has (λ u. same_id (cancelled_id g) (cancelled_id u) ≡ false) z gs s.0 b)),
+            (λ y a. let (z, b, e) = map_has as_booked y gs a in
+            subst (λ u. same_id (cancelled_id g) (booking_id u) ≡ false) (sym e) (all_has (λ u. same_id (cancelled_id g) (cancelled_id u) ≡ false) z gs s.0 b)),
         booked_apart gs s.1,
       )
 
-      across : (x y : BookingRow) → Has x (filter (λ (x : BookingRow). x.committed) bookings) → Has y (map as_booked (filter (λ (x : CancelledRow). x.committed && has_tentative x.by cancels) cancelled)) → same_id (booking_id x) (booking_id y) ≡ false
+      across : (x y : BookingRow) → Has x (filter (λ (x : BookingRow). x.committed) bookings)
+          → Has y (map as_booked (filter (λ (x : CancelledRow). x.committed && has_tentative x.by cancels) cancelled)) → same_id (booking_id x) (booking_id y) ≡ false
       across x y a b =
           false_from_ne_true (same_id (booking_id x) (booking_id y))
           (λ e.
@@ -203,7 +221,8 @@ module _ (r : Replica) (room : Text) (bookings : List BookingRow) (cancelled : L
           let one : rows.Booked x ≡ rows.Cancelled gone = one_place r (rows.Booked x) (rows.Cancelled gone) h p.0 q.0 (same_id-true (booking_id x) (booking_id y) e ∙ ap booking_id s) in
           cc one)
 
-  committed_all : (shown : List BookingRow) → IsPermutation (committed_rows bookings cancelled cancels) shown → IsSortedBy booking_before shown → entries (committed_list (view_of r room)) ≡ map row_entry shown
+  committed_all : (shown : List BookingRow) → IsPermutation (committed_rows bookings cancelled cancels) shown
+      → IsSortedBy booking_before shown → entries (committed_list (view_of r room)) ≡ map row_entry shown
   committed_all shown moved up =
       committed_told r room shown h
       (start_order shown
@@ -218,6 +237,7 @@ module _ (r : Replica) (room : Text) (bookings : List BookingRow) (cancelled : L
       ))
 
 -- the committed calendar: the committed bookings, and those that a tentative cancel took back
-pub committed_calendar_rows : (r : Replica) (room : Text) (bookings : List BookingRow) (cancelled : List CancelledRow) (cancels : List CancelRow) (shown : List BookingRow) → IsReplica r → AreOfRoom r room bookings cancelled cancels
+pub committed_calendar_rows : (r : Replica) (room : Text) (bookings : List BookingRow) (cancelled : List CancelledRow) (cancels : List CancelRow) (shown : List BookingRow)
+    → IsReplica r → AreOfRoom r room bookings cancelled cancels
     → IsPermutation (committed_rows bookings cancelled cancels) shown → IsSortedBy booking_before shown → entries (committed_list (view_of r room)) ≡ map row_entry shown
 committed_calendar_rows r room bookings cancelled cancels shown h are moved up = committed_all r room bookings cancelled cancels h are shown moved up

@@ -11,7 +11,8 @@ use Rattle.mr_model.specs.Writes.{Id, is_room_name, id_in, is_id_text, greatest_
 use Rattle.mr_model.specs.Refusals as model
 use Rattle.mr_model.specs.Replica.{Replica, IsReplica, knows_room, clock_of, count_of}
 use Rattle.mr_model.specs.Replies.{CalendarPart, Full, Committed, Reply, Calendar, Sheet, OutcomeIs, Errors, Refused}
-use Rattle.mr_model.specs.View.{View, view_of, whole_list, calendar_list, entries, entries_of_day, logging_of, find_request, outcome_reply, told_of, Question, AskSheet, AskCalendar, AskOutcome, AskErrors, unless, answer}
+use Rattle.mr_model.specs.View.{View, view_of, whole_list, calendar_list, entries, entries_of_day, logging_of, find_request}
+use Rattle.mr_model.specs.View.{outcome_reply, told_of, Question, AskSheet, AskCalendar, AskOutcome, AskErrors, unless, answer}
 use Rattle.mr_model.specs.Step.{After, Ask, Cancel, Command, IsOfMachine, no_memory, refuse, step_unless, after_write, cancel, cancel_write, knows_booking}
 use Rattle.mr_model.specs.Serving.{TakesStep}
 use Rattle.mr_model.specs.Tables.{BookingRow, ErrorRow, CancelledRow, CancelRow, PlaceRow, Tables, Stands, tables_of}
@@ -65,11 +66,15 @@ fault_known rooms given room found b read moved is =
     rw (p.0, among) refl
 
 -- so a name that is read is found, or is of no known room
-pub room_found : (rooms given : List Text) (room found : Text) (b : Bool) → ok_if (is_room_name room) room refusal.BadRoomName ≡ Ok found → IsPermutation rooms given → b ≡ list_any (bytes_eq found) given → b ≡ true → FindsRoom rooms room (Ok found)
-room_found rooms given room found b read moved is known = ((name_read room found read).1, subst (λ x. room_fault rooms room ≡ model.first_refusal ((not x, model.UnknownRoom) ∷ [])) known (fault_known rooms given room found b read moved is))
+pub room_found : (rooms given : List Text) (room found : Text) (b : Bool) → ok_if (is_room_name room) room refusal.BadRoomName ≡ Ok found
+    → IsPermutation rooms given → b ≡ list_any (bytes_eq found) given → b ≡ true → FindsRoom rooms room (Ok found)
+room_found rooms given room found b read moved is known =
+    ((name_read room found read).1, subst (λ x. room_fault rooms room ≡ model.first_refusal ((not x, model.UnknownRoom) ∷ [])) known (fault_known rooms given room found b read moved is))
 
-pub room_unknown : (rooms given : List Text) (room found : Text) (b : Bool) → ok_if (is_room_name room) room refusal.BadRoomName ≡ Ok found → IsPermutation rooms given → b ≡ list_any (bytes_eq found) given → b ≡ false → FindsRoom rooms room (Err refusal.UnknownRoom)
-room_unknown rooms given room found b read moved is unknown = inl (subst (λ x. room_fault rooms room ≡ model.first_refusal ((not x, model.UnknownRoom) ∷ [])) unknown (fault_known rooms given room found b read moved is))
+pub room_unknown : (rooms given : List Text) (room found : Text) (b : Bool) → ok_if (is_room_name room) room refusal.BadRoomName ≡ Ok found
+    → IsPermutation rooms given → b ≡ list_any (bytes_eq found) given → b ≡ false → FindsRoom rooms room (Err refusal.UnknownRoom)
+room_unknown rooms given room found b read moved is unknown =
+    inl (subst (λ x. room_fault rooms room ≡ model.first_refusal ((not x, model.UnknownRoom) ∷ [])) unknown (fault_known rooms given room found b read moved is))
 
 -- ---- answers
 
@@ -79,17 +84,20 @@ AsksOfRoom room q told =
     (v : View) → answer room v q ≡ unless (model.first_refusal ((not (is_room_name room), model.BadRoomName) ∷ (not v.known, model.UnknownRoom) ∷ [])) (told v)
 
 -- the answer at one replica, by what is at fault with the room
-answer_at : (t : Tables) (a : Replica) (room : Text) (q : Question) (told : View → Reply) (fault : Option model.Refusal) → AsksOfRoom room q told → room_fault t.room room ≡ fault → t ≡ tables_of a → answer room (view_of a room) q ≡ unless fault (told (view_of a room))
+answer_at : (t : Tables) (a : Replica) (room : Text) (q : Question) (told : View → Reply) (fault : Option model.Refusal) → AsksOfRoom room q told
+    → room_fault t.room room ≡ fault → t ≡ tables_of a → answer room (view_of a room) q ≡ unless fault (told (view_of a room))
 answer_at t a room q told fault asks is are =
     asks (view_of a room) ∙ ap (λ o. unless o (told (view_of a room))) (ap (λ (x : Tables). room_fault x.room room) (sym are) ∙ is)
 
 -- a question about a known room is answered
-answered : (t u : Tables) (room found : Text) (q : Question) (told : View → Reply) (reply : Reply) → AsksOfRoom room q told → u ≡ t → FindsRoom t.room room (Ok found) → ((a : Replica) → IsReplica a → t ≡ tables_of a → reply ≡ told (view_of a room)) → TakesStep t (Ask room q) reply u
+answered : (t u : Tables) (room found : Text) (q : Question) (told : View → Reply) (reply : Reply) → AsksOfRoom room q told → u ≡ t
+    → FindsRoom t.room room (Ok found) → ((a : Replica) → IsReplica a → t ≡ tables_of a → reply ≡ told (view_of a room)) → TakesStep t (Ask room q) reply u
 answered t u room found q told reply asks same finds is =
     λ a h. (a, inl (ap (λ r. record { reply = r; replica = a }) (is a h.sound h.are ∙ sym (answer_at t a room q told None asks finds.1 h.are))), subst (λ x. Stands x a) (sym same) h)
 
 -- the refusal of a room's name answers its question
-refused : (t u : Tables) (room : Text) (q : Question) (told : View → Reply) (e : Refusal) → AsksOfRoom room q told → u ≡ t → FindsRoom t.room room (Err e) → TakesStep t (Ask room q) (Refused (refusal_of e)) u
+refused : (t u : Tables) (room : Text) (q : Question) (told : View → Reply) (e : Refusal) → AsksOfRoom room q told
+    → u ≡ t → FindsRoom t.room room (Err e) → TakesStep t (Ask room q) (Refused (refusal_of e)) u
 refused t u room q told e asks same (inl own) =
     λ a h. (a, inl (ap (λ r. record { reply = r; replica = a }) (sym (answer_at t a room q told (Some (refusal_of e)) asks own h.are))), subst (λ x. Stands x a) (sym same) h)
 refused t u room q told e asks same (inr machine) = λ a h. (a, inr (machine, refl), subst (λ x. Stands x a) (sym same) h)
@@ -129,23 +137,28 @@ day_refused t room day e is =
 
 -- and is no failure of the store
 pub day_not_store : (day : Text) (e : Refusal) → Err e ≡ ok_or (read_date day) refusal.BadDay → ¬ (Refused (refusal_of e) ≡ Refused model.Store)
-day_not_store day e is = λ told. absurd (let p : e ≡ refusal.BadDay = (err_read (read_date day) refusal.BadDay e is).1 in let never : Refused model.BadDay ≡ Refused model.Store = ap (λ x. Refused (refusal_of x)) (sym p) ∙ told in cc never)
+day_not_store day e is = λ told. absurd (let p : e ≡ refusal.BadDay = (err_read (read_date day) refusal.BadDay e is).1 in
+    let never : Refused model.BadDay ≡ Refused model.Store = ap (λ x. Refused (refusal_of x)) (sym p) ∙ told in cc never)
 
 -- with a day, a sheet is asked of the room alone
 sheet_asks : (room day : Text) (d : Date) → read_date day ≡ Some d → AsksOfRoom room (AskSheet day) (λ v. Sheet room d (entries_of_day d (whole_list v)))
 sheet_asks room day d e v =
-    ap (λ o. unless (model.first_refusal ((is_none o, model.BadDay) ∷ (not (is_room_name room), model.BadRoomName) ∷ (not v.known, model.UnknownRoom) ∷ [])) (Sheet room (date_in day) (entries_of_day (date_in day) (whole_list v)))) e
+    ap (λ o. unless (model.first_refusal ((is_none o, model.BadDay) ∷ (not (is_room_name room), model.BadRoomName) ∷ (not v.known, model.UnknownRoom) ∷ []))
+    (Sheet room (date_in day) (entries_of_day (date_in day) (whole_list v)))) e
     ∙ ap (λ x. unless (model.first_refusal ((not (is_room_name room), model.BadRoomName) ∷ (not v.known, model.UnknownRoom) ∷ [])) (Sheet room x (entries_of_day x (whole_list v)))) (date_read day d e)
 
 -- a sheet of a room that is not known
-pub sheet_refused : (t u : Tables) (room day : Text) (d : Date) (e : Refusal) → Ok d ≡ ok_or (read_date day) refusal.BadDay → u ≡ t → FindsRoom t.room room (Err e) → TakesStep t (Ask room (AskSheet day)) (Refused (refusal_of e)) u
+pub sheet_refused : (t u : Tables) (room day : Text) (d : Date) (e : Refusal) → Ok d ≡ ok_or (read_date day) refusal.BadDay
+    → u ≡ t → FindsRoom t.room room (Err e) → TakesStep t (Ask room (AskSheet day)) (Refused (refusal_of e)) u
 sheet_refused t u room day d e read same finds = refused t u room (AskSheet day) _ e (sheet_asks room day d (ok_read (read_date day) refusal.BadDay d read)) same finds
 
 -- a sheet has the rows of its day
-pub sheet_step : (t u : Tables) (room found day : Text) (d : Date) (rows : List BookingRow) → Ok d ≡ ok_or (read_date day) refusal.BadDay → u ≡ t → FindsRoom t.room room (Ok found) → AreBookings found (Some d) t rows
+pub sheet_step : (t u : Tables) (room found day : Text) (d : Date) (rows : List BookingRow)
+    → Ok d ≡ ok_or (read_date day) refusal.BadDay → u ≡ t → FindsRoom t.room room (Ok found) → AreBookings found (Some d) t rows
     → TakesStep t (Ask room (AskSheet day)) (Sheet found d (map row_entry rows)) u
 sheet_step t u room found day d rows read same finds are =
-    answered t u room found (AskSheet day) (λ v. Sheet room d (entries_of_day d (whole_list v))) (Sheet found d (map row_entry rows)) (sheet_asks room day d (ok_read (read_date day) refusal.BadDay d read)) same finds
+    answered t u room found (AskSheet day) (λ v. Sheet room d (entries_of_day d (whole_list v)))
+    (Sheet found d (map row_entry rows)) (sheet_asks room day d (ok_read (read_date day) refusal.BadDay d read)) same finds
     (λ a sound stands. ap (λ x. Sheet x d (map row_entry rows)) finds.0
     ∙ ap (Sheet room d) (sym (sheet_rows a room d rows sound (subst (λ x. AreBookings x (Some d) (tables_of a) rows) finds.0 (subst (λ x. AreBookings found (Some d) x rows) stands are)))))
 
@@ -225,13 +238,15 @@ never_without t room row found e at is = λ a h there own.
     absurd (none_some c (sym is ∙ f))
 
 -- the outcome of a write is what its row tells
-pub outcome_step : (t u : Tables) (room found id : Text) (i : Id) (place : code.PlaceRow) (o : Outcome) → Ok i ≡ ok_or (read_id id) refusal.NoSuchRequest → u ≡ t → FindsRoom t.room room (Ok found) → IsPlaceOf found i t (Some place)
+pub outcome_step : (t u : Tables) (room found id : Text) (i : Id) (place : code.PlaceRow) (o : Outcome)
+    → Ok i ≡ ok_or (read_id id) refusal.NoSuchRequest → u ≡ t → FindsRoom t.room room (Ok found) → IsPlaceOf found i t (Some place)
     → TellsOutcomeOf found t (place_row_of place) (Ok o) → TakesStep t (Ask room (AskOutcome id)) (OutcomeIs (outcome_seen o)) u
 outcome_step t u room found id i place o read same finds at tells =
     answered t u room found (AskOutcome id) (λ v. outcome_reply (find_request id v)) (OutcomeIs (outcome_seen o)) (λ v. refl) same finds
     (λ a sound stands.
     let of = place_found a room i place (subst (λ x. IsPlaceOf x i (tables_of a) (Some place)) finds.0 (subst (λ x. IsPlaceOf found i x (Some place)) stands at)) in
-    let said = subst (λ x. TellsOutcomeOf x t (place_row_of place) (Ok o)) finds.0 tells a (record { sound = sound; are = stands }) (subst (λ x. IsRowIn x (place_row_of place)) (sym stands) of.there) of.in_room in
+    let said = subst (λ x. TellsOutcomeOf x t (place_row_of place) (Ok o)) finds.0 tells a
+    (record { sound = sound; are = stands }) (subst (λ x. IsRowIn x (place_row_of place)) (sym stands) of.there) of.in_room in
     sym (subst (λ x. outcome_reply (told_of x (whole_list (view_of a room))) ≡ OutcomeIs (outcome_seen o)) of.of_id said)
     ∙ ap outcome_reply (sym (id_found id i (view_of a room) (ok_read (read_id id) refusal.NoSuchRequest i read))))
 
@@ -251,7 +266,8 @@ no_request_step t u room found id i read same finds at =
     ∙ ap outcome_reply (sym (id_found id i (view_of a room) (ok_read (read_id id) refusal.NoSuchRequest i read))))
 
 -- a text that is no id names no request
-pub bad_id_step : (t u : Tables) (room found id : Text) (e : Refusal) → Err e ≡ ok_or (read_id id) refusal.NoSuchRequest → u ≡ t → FindsRoom t.room room (Ok found) → TakesStep t (Ask room (AskOutcome id)) (Refused (refusal_of e)) u
+pub bad_id_step : (t u : Tables) (room found id : Text) (e : Refusal) → Err e ≡ ok_or (read_id id) refusal.NoSuchRequest
+    → u ≡ t → FindsRoom t.room room (Ok found) → TakesStep t (Ask room (AskOutcome id)) (Refused (refusal_of e)) u
 bad_id_step t u room found id e bad same finds =
     let p = err_read (read_id id) refusal.NoSuchRequest e bad in
     answered t u room found (AskOutcome id) (λ v. outcome_reply (find_request id v)) (Refused (refusal_of e)) (λ v. refl) same finds
@@ -259,7 +275,8 @@ bad_id_step t u room found id e bad same finds =
 
 -- and is no failure of the store
 pub id_not_store : (id : Text) (e : Refusal) → Err e ≡ ok_or (read_id id) refusal.NoSuchRequest → ¬ (Refused (refusal_of e) ≡ Refused model.Store)
-id_not_store id e is = λ told. absurd (let p : e ≡ refusal.NoSuchRequest = (err_read (read_id id) refusal.NoSuchRequest e is).1 in let never : Refused model.NoSuchRequest ≡ Refused model.Store = ap (λ x. Refused (refusal_of x)) (sym p) ∙ told in cc never)
+id_not_store id e is = λ told. absurd (let p : e ≡ refusal.NoSuchRequest = (err_read (read_id id) refusal.NoSuchRequest e is).1 in
+    let never : Refused model.NoSuchRequest ≡ Refused model.Store = ap (λ x. Refused (refusal_of x)) (sym p) ∙ told in cc never)
 
 -- ---- error logs
 
@@ -320,19 +337,22 @@ no_id_text id e = go (is_id_text id) e
     go false f = refl
 
 -- the cancel at one replica, by what is at fault with the room
-cancel_at : (t : Tables) (a : Replica) (room id : Text) (fault : Option model.Refusal) → read_id id ≡ None → room_fault t.room room ≡ fault → t ≡ tables_of a → cancel a room id ≡ refuse a (fault_or_none fault)
+cancel_at : (t : Tables) (a : Replica) (room id : Text) (fault : Option model.Refusal) → read_id id ≡ None
+    → room_fault t.room room ≡ fault → t ≡ tables_of a → cancel a room id ≡ refuse a (fault_or_none fault)
 cancel_at t a room id fault none is are =
     cancel_faulty a room id (no_id_text id none) ∙ ap (λ o. refuse a (fault_or_none o)) (ap (λ (x : Tables). room_fault x.room room) (sym are) ∙ is)
 
 -- a cancel in a room that is not known
-pub no_cancel_refused : (t u : Tables) (room id : Text) (bad e : Refusal) → Err bad ≡ ok_or (read_id id) refusal.NoSuchRequest → u ≡ t → FindsRoom t.room room (Err e) → TakesStep t (Cancel room id) (Refused (refusal_of e)) u
+pub no_cancel_refused : (t u : Tables) (room id : Text) (bad e : Refusal) → Err bad ≡ ok_or (read_id id) refusal.NoSuchRequest
+    → u ≡ t → FindsRoom t.room room (Err e) → TakesStep t (Cancel room id) (Refused (refusal_of e)) u
 unfolding fault_or_none
 no_cancel_refused t u room id bad e read same (inl own) =
     λ a h. (a, inl (sym (cancel_at t a room id (Some (refusal_of e)) (err_read (read_id id) refusal.NoSuchRequest bad read).0 own h.are)), subst (λ x. Stands x a) (sym same) h)
 no_cancel_refused t u room id bad e read same (inr machine) = λ a h. (a, inr (machine, refl), subst (λ x. Stands x a) (sym same) h)
 
 -- a cancel in a known room
-pub no_cancel_step : (t u : Tables) (room found id : Text) (e : Refusal) → Err e ≡ ok_or (read_id id) refusal.NoSuchRequest → u ≡ t → FindsRoom t.room room (Ok found) → TakesStep t (Cancel room id) (Refused (refusal_of e)) u
+pub no_cancel_step : (t u : Tables) (room found id : Text) (e : Refusal) → Err e ≡ ok_or (read_id id) refusal.NoSuchRequest
+    → u ≡ t → FindsRoom t.room room (Ok found) → TakesStep t (Cancel room id) (Refused (refusal_of e)) u
 unfolding fault_or_none
 no_cancel_step t u room found id e read same finds =
     let p = err_read (read_id id) refusal.NoSuchRequest e read in

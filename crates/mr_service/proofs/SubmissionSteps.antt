@@ -38,6 +38,7 @@ six_refuse false false false false false false more q x h = absurd (let g : ◌�
 pub submit_refused : (r : Replica) (s : Submission) (e : model.Refusal) → request_or_fault s ≡ Err e → submit r s ≡ refuse r e
 submit_refused r s e h =
     ap (λ o. step_unless r o (after_write r (write_of r s)))
-    (six_refuse (list_any lacks_day (choice_words s)) (list_any lacks_time (choice_words s)) (is_bad_length s) (not (is_room_name s.room)) (not (is_title s.title)) (ltb greatest_alternatives (length s.alternatives))
+    (six_refuse (list_any lacks_day (choice_words s)) (list_any lacks_time (choice_words s)) (is_bad_length s)
+    (not (is_room_name s.room)) (not (is_title s.title)) (ltb greatest_alternatives (length s.alternatives))
     ((not (knows_room r s.room), model.UnknownRoom) ∷ (clock_of r == greatest_time, model.ClockExhausted) ∷ (count_of r r.server == greatest_count, model.CountExhausted) ∷ [])
     (request_in s) e h)

@@ -1,5 +1,6 @@
 -- The words of a submission, read one after the other, give the request that they make, or the smallest fault.
-use Rattle.std.proofs.Common.{◌≡◌, refl, sym, ap, ◌∙◌, subst, ℕ, ◌+◌, ◌<◌, max, Bool, true, false, not, cond, ◌||◌, ◌&&◌, ltb, leb, List, [], ◌∷◌, length, map, get_or, Option, Some, None, is_none, inl, inr, arith, Result, Ok, Err, le-leb, leb-true, leb-false, le-ltb, lt-ltb, ltb-true}
+use Rattle.std.proofs.Common.{◌≡◌, refl, sym, ap, ◌∙◌, subst, ℕ, ◌+◌, ◌<◌, max, Bool, true, false, not, cond, ◌||◌, ◌&&◌, ltb, leb, List, [], ◌∷◌, length, map}
+use Rattle.std.proofs.Common.{get_or, Option, Some, None, is_none, inl, inr, arith, Result, Ok, Err, le-leb, leb-true, leb-false, le-ltb, lt-ltb, ltb-true}
 use Rattle.std.proofs.lemmas.Bool.{true≢false, false_from_ne_true, and_parts, or_parts}
 use Rattle.std.proofs.lemmas.List.{length-map}
 use Rattle.std.proofs.lemmas.List.Folds.{list_any_at}
@@ -47,13 +48,15 @@ pub no_day : (w : SlotWords) (e : Refusal) (s : Slot) → ok_or (read_date w.day
 no_day w e s h = λ i. unless_faulty ((sym (read_err (read_date w.day) BadDay e h) i, BadDay) ∷ (lacks_time w, BadTime) ∷ []) s
 
 -- and one whose time alone can't be, for that
-pub no_time : (w : SlotWords) (d : Date) (e : Refusal) (s : Slot) → ok_or (read_date w.day) BadDay ≡ Ok d → ok_or (read_time w.time) BadTime ≡ Err e → Err BadTime ≡ unless_faulty ((lacks_day w, BadDay) ∷ (lacks_time w, BadTime) ∷ []) s
+pub no_time : (w : SlotWords) (d : Date) (e : Refusal) (s : Slot) → ok_or (read_date w.day) BadDay ≡ Ok d
+    → ok_or (read_time w.time) BadTime ≡ Err e → Err BadTime ≡ unless_faulty ((lacks_day w, BadDay) ∷ (lacks_time w, BadTime) ∷ []) s
 no_time w d e s g h =
     let day : lacks_day w ≡ false = (read_ok (is_date (date_in w.day) && bytes_eq (date_text (date_in w.day)) w.day) (date_in w.day) d BadDay g).0 in
     λ i. unless_faulty ((sym day i, BadDay) ∷ (sym (read_err (read_time w.time) BadTime e h) i, BadTime) ∷ []) s
 
 -- where both are read, its slot is made
-pub slot_read : (w : SlotWords) (d : Date) (m : ℕ) → ok_or (read_date w.day) BadDay ≡ Ok d → ok_or (read_time w.time) BadTime ≡ Ok m → m < 1440 → ok_if (leb m 1439) (record { day = d; start = m }) BadTime ≡ unless_faulty ((lacks_day w, BadDay) ∷ (lacks_time w, BadTime) ∷ []) (slot_of w)
+pub slot_read : (w : SlotWords) (d : Date) (m : ℕ) → ok_or (read_date w.day) BadDay ≡ Ok d → ok_or (read_time w.time) BadTime ≡ Ok m → m < 1440
+    → ok_if (leb m 1439) (record { day = d; start = m }) BadTime ≡ unless_faulty ((lacks_day w, BadDay) ∷ (lacks_time w, BadTime) ∷ []) (slot_of w)
 slot_read w d m g h l =
     let (day, d_is) = read_ok (is_date (date_in w.day) && bytes_eq (date_text (date_in w.day)) w.day) (date_in w.day) d BadDay g in
     let (time, m_is) = read_ok (ltb (time_in w.time) 1440 && bytes_eq (time_text (time_in w.time)) w.time) (time_in w.time) m BadTime h in
@@ -72,7 +75,8 @@ no_refusal w s e d t h = go (lacks_day w) (lacks_time w) d t h
     go false false x y k = let g : ◌≡◌ {A = Result Slot Refusal} (Ok s) (Err e) = k in cc
 
 -- where none of a list lacks them, that of each is read
-pub slot_there : {A : Type 0} (f : A → SlotWords) (ws : List A) (i : ℕ) (w : A) (s : Slot) (e : Refusal) → w ≡ get_or ws i w → i < length ws → list_any (λ x. lacks_day (f x)) ws ≡ false → list_any (λ x. lacks_time (f x)) ws ≡ false → unless_faulty ((lacks_day (f w), BadDay) ∷ (lacks_time (f w), BadTime) ∷ []) s ≡ Err e → ⊥
+pub slot_there : {A : Type 0} (f : A → SlotWords) (ws : List A) (i : ℕ) (w : A) (s : Slot) (e : Refusal) → w ≡ get_or ws i w → i < length ws → list_any (λ x. lacks_day (f x)) ws ≡ false
+    → list_any (λ x. lacks_time (f x)) ws ≡ false → unless_faulty ((lacks_day (f w), BadDay) ∷ (lacks_time (f w), BadTime) ∷ []) s ≡ Err e → ⊥
 slot_there {A} f ws i w s e at l day time h = no_refusal (f w) s e (one lacks_day day) (one lacks_time time) h
   where
     one : (p : SlotWords → Bool) → list_any (λ x. p (f x)) ws ≡ false → p (f w) ≡ false
@@ -141,7 +145,8 @@ latest_fits m n k (c ∷ cs) h = go (ltb (time_in c.time) 1440 && bytes_eq (time
 start_fits : (s : Submission) (n k : ℕ) → latest_start s ≡ Some k → leb (k + n) 1440 ≡ not (list_any (λ c. not (fits_day n (slot_of c))) (choice_words s))
 start_fits s n k h = go (ltb (time_in s.wish.time) 1440 && bytes_eq (time_text (time_in s.wish.time)) s.wish.time) h
   where
-    go : (b : Bool) → option_and_then (λ start. latest_from start s.alternatives) (cond b (Some (time_in s.wish.time)) None) ≡ Some k → leb (k + n) 1440 ≡ not (list_any (λ c. not (fits_day n (slot_of c))) (choice_words s))
+    go : (b : Bool) → option_and_then (λ start. latest_from start s.alternatives) (cond b (Some (time_in s.wish.time)) None) ≡ Some k
+        → leb (k + n) 1440 ≡ not (list_any (λ c. not (fits_day n (slot_of c))) (choice_words s))
     go true e = latest_fits (time_in s.wish.time) n k s.alternatives e ∙ turned (leb (time_in s.wish.time + n) 1440) (list_any (λ c. not (fits_day n (slot_of c))) s.alternatives)
     go false e = absurd (none_some k e)
 
@@ -171,7 +176,8 @@ twice true = refl
 twice false = refl
 
 -- one that is read is bad just where it doesn't end in the day of the latest start
-pub length_bad : (s : Submission) (latest n : ℕ) → latest_start s ≡ Some latest → only_if (within 1 1440 (number_in s.length) && bytes_eq (decimal (number_in s.length)) s.length) (number_in s.length) ≡ Some n → ltb 1440 (latest + n) ≡ is_bad_length s
+pub length_bad : (s : Submission) (latest n : ℕ) → latest_start s ≡ Some latest
+    → only_if (within 1 1440 (number_in s.length) && bytes_eq (decimal (number_in s.length)) s.length) (number_in s.length) ≡ Some n → ltb 1440 (latest + n) ≡ is_bad_length s
 length_bad s latest n h l =
     let known = length_known s.length n l in
     over (latest + n) (leb (latest + n) 1440) refl
@@ -203,7 +209,8 @@ faultless s none =
     record { days = all.0; times = all.1.0; minutes = all.1.1.0; room = all.1.1.1.0; title = all.1.1.1.1.0; count = all.1.1.1.1.1.0 }
 
 -- each choice that is read lies in its day
-slots_there : (ws : List SlotWords) → list_any lacks_day ws ≡ false → list_any lacks_time ws ≡ false → (n : ℕ) → list_all (λ s. is_slot s && fits_day n s) (map slot_of ws) ≡ not (list_any (λ c. not (fits_day n (slot_of c))) ws)
+slots_there : (ws : List SlotWords) → list_any lacks_day ws ≡ false → list_any lacks_time ws ≡ false → (n : ℕ)
+    → list_all (λ s. is_slot s && fits_day n s) (map slot_of ws) ≡ not (list_any (λ c. not (fits_day n (slot_of c))) ws)
 slots_there [] d t n = refl
 slots_there (w ∷ ws) d t n =
     let d2 = or_parts (lacks_day w) (list_any lacks_day ws) d in
@@ -218,7 +225,8 @@ slots_there (w ∷ ws) d t n =
     some_if false b x h = absurd (true≢false h)
 
 -- the test of the length of a request is that of the words
-length-same : (s : Submission) → list_any lacks_day (choice_words s) ≡ false → list_any lacks_time (choice_words s) ≡ false → is_length_text s.length ≡ true → not (is_length_for (number_in s.length) (slot_of s.wish ∷ map slot_of s.alternatives)) ≡ is_bad_length s
+length-same : (s : Submission) → list_any lacks_day (choice_words s) ≡ false → list_any lacks_time (choice_words s) ≡ false
+    → is_length_text s.length ≡ true → not (is_length_for (number_in s.length) (slot_of s.wish ∷ map slot_of s.alternatives)) ≡ is_bad_length s
 length-same s days times ok =
     (λ i. not ((and_parts (is_length (number_in s.length)) (bytes_eq (decimal (number_in s.length)) s.length) ok).0 i && slots_there (choice_words s) days times (number_in s.length) i))
     ∙ twice (list_any (λ c. not (fits_day (number_in s.length) (slot_of c))) (choice_words s))
@@ -231,7 +239,10 @@ gives (Err e) exact (inl h) = inl (ap answer_of h)
 gives (Err e) exact (inr h) = inr h
 
 -- words without a fault, with their length and slots read, are the request that is made of them
-pub request_made : (s : Submission) (wish : Slot) (alternatives : List Slot) (n : ℕ) (result : Result Request Refusal) → model.first_refusal (word_faults s) ≡ None → wish ≡ slot_of s.wish → alternatives ≡ map slot_of s.alternatives → only_if (within 1 1440 (number_in s.length) && bytes_eq (decimal (number_in s.length)) s.length) (number_in s.length) ≡ Some n → OrOutOfMemory result (base.request_of s.room s.title n wish alternatives) → Gives result (request_or_fault s)
+pub request_made : (s : Submission) (wish : Slot) (alternatives : List Slot) (n : ℕ) (result : Result Request Refusal)
+    → model.first_refusal (word_faults s) ≡ None → wish ≡ slot_of s.wish → alternatives ≡ map slot_of s.alternatives
+    → only_if (within 1 1440 (number_in s.length) && bytes_eq (decimal (number_in s.length)) s.length) (number_in s.length) ≡ Some n
+    → OrOutOfMemory result (base.request_of s.room s.title n wish alternatives) → Gives result (request_or_fault s)
 request_made s wish alternatives n result none own others l made =
     subst (Gives result) (sym (ap (λ (o : Option model.Refusal). ok_unless o (request_in s)) none)) (gives result (Ok (request_in s)) (subst (OrOutOfMemory result) (plain ∙ whole) made))
   where
@@ -247,4 +258,5 @@ request_made s wish alternatives n result none own others l made =
     whole : base.request_of s.room s.title (number_in s.length) (slot_of s.wish) (map slot_of s.alternatives) ≡ Ok (request_in s)
     whole =
         let no = faultless s none in
-        λ i. unless_faulty (((length-same s no.days no.times number.0 ∙ no.minutes) i, BadLength) ∷ (no.room i, BadRoomName) ∷ (no.title i, BadTitle) ∷ ((few ∙ no.count) i, TooManyAlternatives) ∷ []) (request_in s)
+        λ i. unless_faulty (((length-same s no.days no.times number.0 ∙ no.minutes) i, BadLength) ∷
+        (no.room i, BadRoomName) ∷ (no.title i, BadTitle) ∷ ((few ∙ no.count) i, TooManyAlternatives) ∷ []) (request_in s)

@@ -1,5 +1,6 @@
 -- The replicas of a world and those that they stand for, one after the other.
-use Rattle.std.proofs.Common.{◌≡◌, refl, sym, ap, subst, ◌∙◌, ℕ, zero, suc, ◌<◌, ◌≤◌, true, false, eqb, eqb-true, eq-eqb, List, [], ◌∷◌, ◌++◌, length, get_or, Some, None, not-suc-le-zero, le_of_suc-le-suc, inl, inr, ◌⊎◌}
+use Rattle.std.proofs.Common.{◌≡◌, refl, sym, ap, subst, ◌∙◌, ℕ, zero, suc, ◌<◌, ◌≤◌, true, false, eqb, eqb-true, eq-eqb, List}
+use Rattle.std.proofs.Common.{[], ◌∷◌, ◌++◌, length, get_or, Some, None, not-suc-le-zero, le_of_suc-le-suc, inl, inr, ◌⊎◌}
 use Rattle.std.proofs.lemmas.Bool.{cases_Bool, cond-true, cond-false}
 use Rattle.std.proofs.lemmas.Option.{none-some, same_Some}
 use Rattle.std.specs.List.{find, slice_get, slice_set}
@@ -114,7 +115,8 @@ stand_at (x ∷ ms) (y ∷ rs) zero m r h low is e = subst (λ z. StandsForMembe
 stand_at (x ∷ ms) (y ∷ rs) (suc k) m r h low is e = stand_at ms rs k m r h.1 (le_of_suc-le-suc low) is e
 
 -- one that stands for all that another stood for may take its place
-pub stand_still : (ms : List MemberView) (rs : List Replica) (k : ℕ) (m after : MemberView) → ((r : Replica) → StandsForMember m r → StandsForMember after r) → k < length ms → m ≡ get_or ms k m → StandForAll ms rs → StandForAll (slice_set ms k after) rs
+pub stand_still : (ms : List MemberView) (rs : List Replica) (k : ℕ) (m after : MemberView) → ((r : Replica) → StandsForMember m r → StandsForMember after r)
+    → k < length ms → m ≡ get_or ms k m → StandForAll ms rs → StandForAll (slice_set ms k after) rs
 stand_still [] rs k m after keeps low is h = absurd (not-suc-le-zero low)
 stand_still (x ∷ ms) [] k m after keeps low is h = absurd h
 stand_still (x ∷ ms) (y ∷ rs) zero m after keeps low is h = (keeps y (subst (λ z. StandsForMember z y) (sym is) h.0), h.1)

@@ -90,11 +90,11 @@ ShowsLines room t lines = (a : Replica) → Stands t a → filter_map logging_of
 abbrev pub LogKey : Type 0
 LogKey = Bool × ℕ × ℕ × ℕ
 
-abbrev pub log_key : LogLine → LogKey
-log_key l = (line_seq l == 0, line_seq l, line_time l, line_server l)
+abbrev pub log_line_key : LogLine → LogKey
+log_line_key l = (line_seq l == 0, line_seq l, line_time l, line_server l)
 
 abbrev pub line_key : replies.LogLine → LogKey
-line_key line = log_key (log_line_seen line)
+line_key line = log_line_key (log_line_seen line)
 
 -- by the first part that differs, false before true
 abbrev pub log_key_cmp : LogKey → LogKey → Ordering

@@ -56,8 +56,8 @@ IsPositionText reply text = (p : Position) × (reply ≡ PositionIs p) × (text 
 
 -- what making a batch comes to, where the maker would reply this: its text is put behind the others, or it is refused, or memory
 -- is wanting
-abbrev pub IsMade : Reply → StepReply → List Text → List Text → Type 0
-IsMade reply said old new =
+abbrev pub IsBatchMade : Reply → StepReply → List Text → List Text → Type 0
+IsBatchMade reply said old new =
     ((b : Batch) × (reply ≡ BatchIs b) × (said ≡ Made (length old + 1) (length (batch_text b))) × (new ≡ old ++ batch_text b ∷ []))
     ⊎ (((e : Refusal) × (reply ≡ Refused e) × (said ≡ Said (Refused e)) × (new ≡ old)) ⊎ ((said ≡ Said (Refused OutOfMemory)) × (new ≡ old)))
 

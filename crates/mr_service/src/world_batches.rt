@@ -5,7 +5,7 @@ ghost use Rattle.mr_model.specs.Replies.{Reply as ReplyOfReplica};
 ghost use Rattle.mr_model.specs.Step.{batch_reply, reply_to_position};
 ghost use Rattle.mr_model.specs.World as model;
 ghost use Rattle.mr_service.specs.Stepping.{step_reply_of};
-ghost use Rattle.mr_service.specs.Worlds.{TakesWorldStep, StandForAll, IsBatchText, IsMade};
+ghost use Rattle.mr_service.specs.Worlds.{TakesWorldStep, StandForAll, IsBatchText, IsBatchMade};
 
 use crate::members::{Member, find};
 use crate::replies::Reply;
@@ -49,7 +49,7 @@ fn make_at(
     requires taker { taker < length members.old.items }
     ensures stays { (rs : List Replica) → StandForAll members.old.items rs → StandForAll members.new.items rs }
     ensures made { (rs : List Replica) (a b : Replica) → StandForAll members.old.items rs → slice_get rs maker ≡ Some a → slice_get rs taker ≡ Some b
-        → IsMade (batch_reply a (position_of b) max_lines) (step_reply_of result) (map (λ bytes. bytes.items) pool.old.items)
+        → IsBatchMade (batch_reply a (position_of b) max_lines) (step_reply_of result) (map (λ bytes. bytes.items) pool.old.items)
         (map (λ bytes. bytes.items) pool.new.items) }
 {
     match members[taker].position(alloc) {
@@ -70,7 +70,7 @@ fn batch_at(
     requires { maker < length members.old.items }
     ensures stays { (rs : List Replica) → StandForAll members.old.items rs → StandForAll members.new.items rs }
     ensures made { (rs : List Replica) (a : Replica) → StandForAll members.old.items rs → slice_get rs maker ≡ Some a
-        → IsMade (reply_to_position a (read_position position.items) max_lines) (step_reply_of result) (map (λ bytes. bytes.items) pool.old.items)
+        → IsBatchMade (reply_to_position a (read_position position.items) max_lines) (step_reply_of result) (map (λ bytes. bytes.items) pool.old.items)
         (map (λ bytes. bytes.items) pool.new.items) }
 {
     match members[maker].batch(alloc, position, max_lines) {
@@ -82,7 +82,7 @@ fn batch_at(
 /// Puts the text of a batch behind the others.
 fn add_text(pool: &mut Vec<Vec<u8>>, text: Vec<u8>) -> StepReply
     ensures { (reply : ReplyOfReplica) → IsBatchText reply text.items
-        → IsMade reply (step_reply_of result) (map (λ bytes. bytes.items) pool.old.items) (map (λ bytes. bytes.items) pool.new.items) }
+        → IsBatchMade reply (step_reply_of result) (map (λ bytes. bytes.items) pool.old.items) (map (λ bytes. bytes.items) pool.new.items) }
 {
     let (number, bytes) = (pool.len() as u64, text.len() as u64);
     match push_text(pool, text) {

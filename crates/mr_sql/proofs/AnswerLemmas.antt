@@ -35,7 +35,8 @@ asked_both day room (r ∷ rows) = go (bytes_eq r.room room) (asked_both day roo
     go true ih = ap (λ more. cond (is_day_asked day r.day) (r ∷ more) more) ih
     go false ih = ih
 
-pub calendar_is : (room : Text) (day : Option Date) (trees : Trees) (shown out : List BookingRow) → IsPermutation (filter (λ row. bytes_eq row.room room) (in_order booking_form (trees 10))) shown → IsPermutation (filter (λ r. is_day_asked day r.day) shown) out
+pub calendar_is : (room : Text) (day : Option Date) (trees : Trees) (shown out : List BookingRow)
+    → IsPermutation (filter (λ row. bytes_eq row.room room) (in_order booking_form (trees 10))) shown → IsPermutation (filter (λ r. is_day_asked day r.day) shown) out
     → IsSortedBy booking_before out → AreBookings room day (tables_in trees) out
 unfolding tables_in
 calendar_is room day trees shown out read same sorted =
@@ -43,15 +44,18 @@ calendar_is room day trees shown out read same sorted =
 
 -- ---- the rows of a room in the other tables
 
-pub errors_are : (room : Text) (trees : Trees) (rows : List ErrorRow) → IsPermutation (filter (λ row. bytes_eq row.room room) (in_order error_form (trees 12))) rows → IsPermutation (picked_errors room (tables_in trees)) rows
+pub errors_are : (room : Text) (trees : Trees) (rows : List ErrorRow)
+    → IsPermutation (filter (λ row. bytes_eq row.room room) (in_order error_form (trees 12))) rows → IsPermutation (picked_errors room (tables_in trees)) rows
 unfolding tables_in
 errors_are room trees rows same = same
 
-pub cancelled_are : (room : Text) (trees : Trees) (rows : List CancelledRow) → IsPermutation (filter (λ row. bytes_eq row.room room) (in_order cancelled_form (trees 16))) rows → IsPermutation (picked_cancelled room (tables_in trees)) rows
+pub cancelled_are : (room : Text) (trees : Trees) (rows : List CancelledRow)
+    → IsPermutation (filter (λ row. bytes_eq row.room room) (in_order cancelled_form (trees 16))) rows → IsPermutation (picked_cancelled room (tables_in trees)) rows
 unfolding tables_in
 cancelled_are room trees rows same = same
 
-pub cancels_are : (room : Text) (trees : Trees) (rows : List CancelRow) → IsPermutation (filter (λ row. bytes_eq row.room room) (in_order cancel_form (trees 18))) rows → IsPermutation (picked_cancels room (tables_in trees)) rows
+pub cancels_are : (room : Text) (trees : Trees) (rows : List CancelRow)
+    → IsPermutation (filter (λ row. bytes_eq row.room room) (in_order cancel_form (trees 18))) rows → IsPermutation (picked_cancels room (tables_in trees)) rows
 unfolding tables_in
 cancels_are room trees rows same = same
 
@@ -82,7 +86,8 @@ find_both {X} p q (x ∷ xs) one = go (p x) refl (find_both p q xs (λ y z h k. 
 
 -- by the order of the tables, of rows that are those of the id wherever they are of the room
 module _ (room : Text) (id : Id) (t : Tables) where
-  cancel_is : (cancel : Option CancelRow) → find_booking room id t ≡ None → find_error room id t ≡ None → find_cancelled room id t ≡ None → find_cancel room id t ≡ keep (λ r. bytes_eq r.room room) cancel
+  cancel_is : (cancel : Option CancelRow) → find_booking room id t ≡ None → find_error room id t ≡ None
+      → find_cancelled room id t ≡ None → find_cancel room id t ≡ keep (λ r. bytes_eq r.room room) cancel
       → IsPlaceOf room id t (cancel_row_in room cancel)
   cancel_is None unbooked unlogged untaken e = (unbooked, unlogged, untaken, e)
   cancel_is (Some row) unbooked unlogged untaken e = go (bytes_eq row.room room) e
@@ -91,7 +96,8 @@ module _ (room : Text) (id : Id) (t : Tables) where
       go true e = (unbooked, unlogged, untaken, e)
       go false e = (unbooked, unlogged, untaken, e)
 
-  taken_is : (cancelled : Option CancelledRow) (cancel : Option CancelRow) → find_booking room id t ≡ None → find_error room id t ≡ None → find_cancelled room id t ≡ keep (λ r. bytes_eq r.room room) cancelled
+  taken_is : (cancelled : Option CancelledRow) (cancel : Option CancelRow) → find_booking room id t ≡ None
+      → find_error room id t ≡ None → find_cancelled room id t ≡ keep (λ r. bytes_eq r.room room) cancelled
       → find_cancel room id t ≡ keep (λ r. bytes_eq r.room room) cancel → IsPlaceOf room id t (taken_in room cancelled cancel)
   taken_is None cancel unbooked unlogged e last = cancel_is cancel unbooked unlogged e last
   taken_is (Some row) cancel unbooked unlogged e last = go (bytes_eq row.room room) e
@@ -101,7 +107,8 @@ module _ (room : Text) (id : Id) (t : Tables) where
       go false e = cancel_is cancel unbooked unlogged e last
 
   erred_is : (error : Option ErrorRow) (cancelled : Option CancelledRow) (cancel : Option CancelRow) → find_booking room id t ≡ None → find_error room id t ≡ keep (λ r. bytes_eq r.room room) error
-      → find_cancelled room id t ≡ keep (λ r. bytes_eq r.room room) cancelled → find_cancel room id t ≡ keep (λ r. bytes_eq r.room room) cancel → IsPlaceOf room id t (error_row_in room error (taken_in room cancelled cancel))
+      → find_cancelled room id t ≡ keep (λ r. bytes_eq r.room room) cancelled → find_cancel room id t ≡ keep (λ r. bytes_eq r.room room) cancel
+      → IsPlaceOf room id t (error_row_in room error (taken_in room cancelled cancel))
   erred_is None cancelled cancel unbooked e third last = taken_is cancelled cancel unbooked e third last
   erred_is (Some row) cancelled cancel unbooked e third last = go (bytes_eq row.room room) e
     where
@@ -110,7 +117,8 @@ module _ (room : Text) (id : Id) (t : Tables) where
       go false e = taken_is cancelled cancel unbooked e third last
 
   booked_is : (booking : Option BookingRow) (error : Option ErrorRow) (cancelled : Option CancelledRow) (cancel : Option CancelRow) → find_booking room id t ≡ keep (λ r. bytes_eq r.room room) booking
-      → find_error room id t ≡ keep (λ r. bytes_eq r.room room) error → find_cancelled room id t ≡ keep (λ r. bytes_eq r.room room) cancelled → find_cancel room id t ≡ keep (λ r. bytes_eq r.room room) cancel
+      → find_error room id t ≡ keep (λ r. bytes_eq r.room room) error → find_cancelled room id t ≡ keep (λ r. bytes_eq r.room room) cancelled
+      → find_cancel room id t ≡ keep (λ r. bytes_eq r.room room) cancel
       → IsPlaceOf room id t (chosen room booking error (taken_in room cancelled cancel))
   booked_is None error cancelled cancel e second third last = erred_is error cancelled cancel e second third last
   booked_is (Some row) error cancelled cancel e second third last = go (bytes_eq row.room room) e

@@ -180,7 +180,8 @@ module _ {S : Type 0} (g : Ghosts S) where
   pub then_call : {X Y : Type 0} (old mid new : Held S × ℕ) (x : X) (r : Result Y Fault) → IsQuietCall g old mid (Ok x) → IsQuietCall g mid new r → IsQuietCall g old new r
   then_call old mid new x r first next = quiet_then shown (λ k. k.1) is_clean is_open Leaves old mid new x r first next
 
-  pub then_change : {X Y : Type 0} (change : ChangeView) (old mid new : Held S × ℕ) (x : X) (r : Result Y Fault) → IsQuietCall g old mid (Ok x) → IsAtomicCall g change mid new r → IsAtomicCall g change old new r
+  pub then_change : {X Y : Type 0} (change : ChangeView) (old mid new : Held S × ℕ) (x : X) (r : Result Y Fault)
+      → IsQuietCall g old mid (Ok x) → IsAtomicCall g change mid new r → IsAtomicCall g change old new r
   then_change change old mid new x r first next = atomic_then shown (λ k. k.1) is_clean is_open Leaves old mid new change x r first next
 
   pub then_told : {X Y : Type 0} (P : Tables → Type 0) (old mid new : Held S × ℕ) (x : X) (r : Result Y Fault) → IsQuietCall g old mid (Ok x) → IsQuietCall g mid new r

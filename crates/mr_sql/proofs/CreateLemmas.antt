@@ -1,5 +1,5 @@
 -- What making the tables does, and putting the first rows into them.
-use Rattle.std.proofs.Common.{◌≡◌, inl, inr, [], Err, Ok, Result, OnOk, OnErr, IsTrue, refl, sym, ap, subst, ◌∙◌}
+use Rattle.std.proofs.Common.{◌≡◌, inl, inr, [], Err, Ok, Result, OnOk, IsTrue, refl, sym, ap, subst, ◌∙◌}
 use Rattle.std.specs.List.{AllByRecursion}
 use Rattle.sqlite_schema.specs.declared.schema.Table.{Table}
 use Rattle.sqlite.specs.declared.error.Error.{Error}
@@ -33,7 +33,18 @@ fills a b c d m to_c to_d made widened put clean within schema =
     let one = made (clean_before b c to_c clean_c) within schema in
     let none = none_first a b one in
     let first = blank_first b.now one.schema none in
-    let emptied : IsEmptied b b = record { schema = one.schema; meta = none.0; room = refl; vector = refl; write_log = none.1.1.1.0; undo = none.1.1.1.1.0; booking = refl; errorlog = refl; committed = refl; within = one.within } in
+    let emptied : IsEmptied b b = record {
+      schema = one.schema;
+      meta = none.0;
+      room = refl;
+      vector = refl;
+      write_log = none.1.1.1.0;
+      undo = none.1.1.1.1.0;
+      booking = refl;
+      errorlog = refl;
+      committed = refl;
+      within = one.within;
+    } in
     let two = lays_out b b c first.0 emptied (widened clean_c one.within one.schema) in
     let three = put (clean, two.within, two.ours) in
     record {
@@ -56,10 +67,6 @@ fills_first a b c t (Ok x) s made put clean within schema =
     record { ours = two.ours; tables_are = two.tables_are ∙ ap (tables_put t) first.1; committed = two.committed ∙ one.committed; within = two.within }
 
 -- ---- a commit that fails
-
-pub on_err_any : {X E P : Type 0} (r : Result X E) → P → OnErr r P
-on_err_any (Ok x) p = tt
-on_err_any (Err e) p = p
 
 -- the database is as it was before the transaction
 pub commit_fails : (a b c : State) (e : Error) (t : Tables) → IsTablesStep a b t → FailsToCommit b c e → IsTrue c.is_open → a.now ≡ a.committed → (c.now ≡ a.now) × (c.committed ≡ a.committed)

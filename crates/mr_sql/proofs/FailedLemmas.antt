@@ -24,7 +24,8 @@ use Rattle.mr_sql.proofs.FailedReads.{of_store}
 use Rattle.mr_sql.proofs.TakenLemmas.{of_schema}
 
 -- an error of which this is known, told as a refusal
-pub store_failed : (old new : State) (e : Error) (r : Refusal) → (e ≡ SqliteFailure code.OutOfMemory → r ≡ refusal.OutOfMemory) → (e ≢ SqliteFailure code.OutOfMemory → IsOfStore old new e) → r ≡ refusal.Store → StoreFailed old new
+pub store_failed : (old new : State) (e : Error) (r : Refusal) → (e ≡ SqliteFailure code.OutOfMemory → r ≡ refusal.OutOfMemory)
+    → (e ≢ SqliteFailure code.OutOfMemory → IsOfStore old new e) → r ≡ refusal.Store → StoreFailed old new
 store_failed old new e r memory cause is = of_store old new e other (cause other)
   where
     other : e ≢ SqliteFailure code.OutOfMemory
@@ -55,7 +56,8 @@ disk_failed old new now free (inr (inl shut)) = absurd (let never = rw shut at n
 disk_failed old new now free (inr (inr limit)) = absurd (let never = rw free at limit in cc)
 
 -- a store that holds a database is taken for none only if its disk failed
-pub not_opened : (trees : Trees) (schema : Schema) (first old new : ℕ) (e : Error) → IsSound schema trees → first ≤ old → FailsToOpen trees (MoreFaults old new) e → e ≢ SqliteFailure code.OutOfMemory → MoreFaults first new
+pub not_opened : (trees : Trees) (schema : Schema) (first old new : ℕ) (e : Error) → IsSound schema trees → first ≤ old
+    → FailsToOpen trees (MoreFaults old new) e → e ≢ SqliteFailure code.OutOfMemory → MoreFaults first new
 not_opened trees schema first old new e sound less (inl none) other = absurd (none.1 schema sound)
 not_opened trees schema first old new e sound less (inr (k, same, had)) other = go k same had
   where

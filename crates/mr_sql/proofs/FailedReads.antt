@@ -11,11 +11,11 @@ use Rattle.sqlite.specs.declared.error.ErrorCode.TheVariants as code
 use Rattle.mr_model.specs.Replica.{Replica}
 use Rattle.mr_model.specs.Tables.{Stands}
 use Rattle.mr_rows.specs.Causes.{IsOfStore, FailsByStore}
-use Rattle.mr_rows.specs.Database.{IsKept, IsOurs, tables_in}
+use Rattle.mr_rows.specs.Database.{IsKept, tables_in}
 use Rattle.mr_rows.specs.Reads.{ReadsKept, ReadsInUse}
 use Rattle.mr_rows.specs.Shown.{AreOurRows}
 use Rattle.mr_rows.proofs.HeldRows.{rows_held}
-use Rattle.mr_rows.proofs.QueryLemmas.{clean_before, placed}
+use Rattle.mr_rows.proofs.QueryLemmas.{clean_before, placed, still_kept}
 use Rattle.mr_sql.specs.Failed.{StoreFailed}
 use Rattle.mr_sql.specs.FailedReads.{FailsByStoreAlone}
 
@@ -64,11 +64,9 @@ pub refused_alone : {X : Type 0} (r : Result X Error) (P : Type 0) → P → IfE
 refused_alone (Ok x) P holds refused = tt
 refused_alone (Err e) P holds refused = λ other. refused other holds
 
-still_kept : (a b : State) → IsKept a → (b.now ≡ a.now) × (b.committed ≡ a.committed) → IsKept b
-still_kept a b kept same = record { ours = subst IsOurs (sym same.0) kept.ours; settled = same.0 ∙ kept.settled ∙ sym same.1 }
-
 -- one read after another
-pub alone_then : {X Y : Type 0} (a b c : State) (x : X) (P : X → Type 0) {After : Trees → Type 0} (r : Result Y Error) → ReadsKept a b (Ok x) P → Survives b c After → FailsByStoreAlone b c r → FailsByStoreAlone a c r
+pub alone_then : {X Y : Type 0} (a b c : State) (x : X) (P : X → Type 0) {After : Trees → Type 0} (r : Result Y Error)
+    → ReadsKept a b (Ok x) P → Survives b c After → FailsByStoreAlone b c r → FailsByStoreAlone a c r
 alone_then a b c x P (Ok y) read survives fails = λ clean kept r stands. tt
 alone_then a b c x P (Err e) read survives fails = λ clean kept r stands other.
     let between = clean_before survives clean in

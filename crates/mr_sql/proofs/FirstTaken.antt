@@ -28,7 +28,8 @@ pub record IsFoundFirst (trees : Trees) (m : MetaRow) (s : State) : Type 0 where
   pub meta : (first_in trees).meta ≡ m
 
 -- rows that could be read are those of a replica's first tables
-pub finds_first : (m : MetaRow) (old new : State) → IsTaken old → old.now.schema ≡ first_schema → (new.now ≡ old.now) × (new.committed ≡ old.committed) → AreFirstRows old.now.trees → IsMeta old.now.trees (Some m)
+pub finds_first : (m : MetaRow) (old new : State) → IsTaken old → old.now.schema ≡ first_schema
+    → (new.now ≡ old.now) × (new.committed ≡ old.committed) → AreFirstRows old.now.trees → IsMeta old.now.trees (Some m)
     → IsFoundFirst old.now.trees m new
 finds_first m old new taken first same rows meta =
     let held : IsFirst old.now = first_held old.now first taken.sound taken.shelves rows in
@@ -44,7 +45,8 @@ pub raised_to : (before after : Trees) → tables_in after ≡ moved (first_in b
 raised_to before after are = record { tables_are = are; stands = λ a stands. subst (λ (t : Tables). Stands t a) (sym are) (moves_up (first_in before) a stands) }
 
 -- and is a keeper's, of those who are wanted
-pub raises : (w : Whose) (trees : Trees) (m : MetaRow) (old new : State) → IsFoundFirst trees m old → IsApplied old new (moved (first_in old.now.trees)) → IsTrue new.is_open → Suits w m → IsOpenFor w trees None new
+pub raises : (w : Whose) (trees : Trees) (m : MetaRow) (old new : State) → IsFoundFirst trees m old
+    → IsApplied old new (moved (first_in old.now.trees)) → IsTrue new.is_open → Suits w m → IsOpenFor w trees None new
 raises w trees m old new found applied now suits =
     let are : tables_in new.now.trees ≡ moved (first_in trees) = applied.tables_are ∙ ap (λ (t : Trees). moved (first_in t)) found.trees_are in
     record {

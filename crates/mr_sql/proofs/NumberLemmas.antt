@@ -21,7 +21,8 @@ one_row (s ∷ []) r same = (s, refl, is (has_moved _ (r ∷ []) (columns_from 1
 one_row (s ∷ t ∷ rows) r same = absurd (let long = length_permutation _ _ same in omega (arith, long))
 
 -- its number is the one that is shown
-pub other_number : (number : ℕ) (trees : Trees) (shown : List Row) → IsPermutation (map (columns_from 1 7) (trees 0)) shown → ((r : Row) × (shown ≡ r ∷ []) × (1 < length r → column r 1 ≢ Int (pos number))) → HasOtherNumber number trees
+pub other_number : (number : ℕ) (trees : Trees) (shown : List Row) → IsPermutation (map (columns_from 1 7) (trees 0)) shown
+    → ((r : Row) × (shown ≡ r ∷ []) × (1 < length r → column r 1 ≢ Int (pos number))) → HasOtherNumber number trees
 other_number number trees shown same alone =
     let found = one_row (trees 0) alone.0 (subst (IsPermutation (map (columns_from 1 7) (trees 0))) alone.1 same) in
     let long : 1 < length alone.0 = subst (λ (r : Row). 1 < length r) found.2 (omega arith) in

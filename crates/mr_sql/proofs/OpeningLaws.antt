@@ -94,7 +94,8 @@ unread_strange w s strange = record {
 }
 
 -- our tables are found
-pub found_open : (w : Whose) (old new : State) (keep : Bool) (t : Tables) (rows : Option Tables) → old.now.schema ≡ our_schema → Looks old new (Ok (Some t)) (AreFoundHere keep old.now.trees) → Suits w t.meta
+pub found_open : (w : Whose) (old new : State) (keep : Bool) (t : Tables) (rows : Option Tables)
+    → old.now.schema ≡ our_schema → Looks old new (Ok (Some t)) (AreFoundHere keep old.now.trees) → Suits w t.meta
     → rows ≡ (if keep then Some t else None) → IsOpening w old new (Ok rows)
 found_open w old new keep t rows ours read suits is = record {
   survives = survives_weaker old new _ _ (λ _ db none taken. absurd (none (record { schema = ours; settled = taken.settled }))) read.0;
@@ -106,7 +107,8 @@ found_open w old new keep t rows ours read suits is = record {
       record {
         is_open = told.0;
         kept = settles old new taken ours same all.0;
-        tables = taken_as w old.now.trees new.now.trees t.meta (inl (sound_as old our_schema taken ours, ap (λ (db : Database). db.trees) same.0)) (ap (λ (db : Database). (tables_in db.trees).meta) same.0 ∙ meta_is_found old.now.trees t.meta all.1) suits;
+        tables = taken_as w old.now.trees new.now.trees t.meta (inl (sound_as old our_schema taken ours, ap (λ (db : Database). db.trees) same.0))
+            (ap (λ (db : Database). (tables_in db.trees).meta) same.0 ∙ meta_is_found old.now.trees t.meta all.1) suits;
         fresh = fresh_of rows t keep new is (λ k. all.2 k (all_held old.now ours taken.sound taken.shelves all.0) ∙ ap (λ (db : Database). tables_in db.trees) (sym same.0));
       };
   refused = λ clean taken. tt;
@@ -127,7 +129,8 @@ module _ (w : Whose) (old mid new : State) (m : MetaRow) (first : old.now.schema
   left moves = survives_then old mid new _ _ _ (λ _ db none taken. absurd (none (record { schema = first; settled = taken.settled })))
       (λ clean db way taken. raised_by_crash w old.now.trees db m mid (found (clean_before moves clean) taken) way suits) read.0 moves
 
-  pub raised : Survives mid new (IsMoved mid (moved (first_in mid.now.trees))) → (HasCleanDisk new → IsTrue new.is_open) → MovesTo mid new (moved (first_in mid.now.trees)) (Ok tt) → IsOpening w old new (Ok None)
+  pub raised : Survives mid new (IsMoved mid (moved (first_in mid.now.trees))) → (HasCleanDisk new → IsTrue new.is_open)
+      → MovesTo mid new (moved (first_in mid.now.trees)) (Ok tt) → IsOpening w old new (Ok None)
   raised moves lasts way = record {
     survives = left moves;
     opened = λ clean taken.
@@ -138,7 +141,8 @@ module _ (w : Whose) (old mid new : State) (m : MetaRow) (first : old.now.schema
     cause = tt;
   }
 
-  pub not_raised : (error : Error) → Survives mid new (IsMoved mid (moved (first_in mid.now.trees))) → MovesTo mid new (moved (first_in mid.now.trees)) (Err error) → (e : Refusal) → (e ≡ refusal.OutOfMemory) ⊎ (e ≡ refusal.Store)
+  pub not_raised : (error : Error) → Survives mid new (IsMoved mid (moved (first_in mid.now.trees)))
+      → MovesTo mid new (moved (first_in mid.now.trees)) (Err error) → (e : Refusal) → (e ≡ refusal.OutOfMemory) ⊎ (e ≡ refusal.Store)
       → IsOpening w old new (Err e)
   not_raised error moves way e cause = record {
     survives = left moves;
@@ -159,7 +163,8 @@ module _ (w : Whose) (old mid new : State) (m : MetaRow) (first : old.now.schema
 -- ---- what comes of an opening
 
 -- a new keeper
-pub new_keeper : (w : Whose) (old new : State) (rows : Option Tables) → (HasCleanDisk old → IsTaken old) → IsOpening w old new (Ok rows) → ((db : Trees) → IsTrue new.is_open → new.may_leave db → db ≡ new.committed.trees)
+pub new_keeper : (w : Whose) (old new : State) (rows : Option Tables) → (HasCleanDisk old → IsTaken old)
+    → IsOpening w old new (Ok rows) → ((db : Trees) → IsTrue new.is_open → new.may_leave db → db ≡ new.committed.trees)
     → IsNewKeeper (AreTakenAs w old.now.trees) new 0
 new_keeper w old new rows taken opening law =
     let done = λ (clean : HasCleanDisk new). opening.opened clean (taken (clean_before opening.survives clean)) in
@@ -171,7 +176,8 @@ new_keeper w old new rows taken opening law =
     }
 
 -- or the connection
-pub given_back : (w : Whose) (old new : State) (e : Refusal) → (HasCleanDisk old → IsTaken old) → IsOpening w old new (Err e) → ((db : Trees) → IsTrue old.is_open → old.may_leave db → db ≡ old.committed.trees) → HasCleanDisk new
+pub given_back : (w : Whose) (old new : State) (e : Refusal) → (HasCleanDisk old → IsTaken old) → IsOpening w old new (Err e)
+    → ((db : Trees) → IsTrue old.is_open → old.may_leave db → db ≡ old.committed.trees) → HasCleanDisk new
     → HasCleanDisk old × RefusesFor w old.now.trees e new
 given_back w old new e taken opening law clean =
     let before = clean_before opening.survives clean in
@@ -188,13 +194,15 @@ given_back w old new e taken opening law clean =
 pub keeper_so : (P Q : Trees → Type 0) (s : State) (failures : ℕ) → (HasCleanDisk s → (trees : Trees) → P trees → Q trees) → IsNewKeeper P s failures → IsNewKeeper Q s failures
 keeper_so P Q s failures way k = record { opens = k.opens; opened = λ clean. way clean s.now.trees (k.opened clean); settled = k.settled; uncounted = k.uncounted }
 
-pub keepers_so : {K E : Type 0} (P Q : Trees → Type 0) (s : K → State) (failures : K → ℕ) (r : Result K E) → ((k : K) → HasCleanDisk (s k) → (trees : Trees) → P trees → Q trees) → IfOk r (λ k. IsNewKeeper P (s k) (failures k))
+pub keepers_so : {K E : Type 0} (P Q : Trees → Type 0) (s : K → State) (failures : K → ℕ) (r : Result K E)
+    → ((k : K) → HasCleanDisk (s k) → (trees : Trees) → P trees → Q trees) → IfOk r (λ k. IsNewKeeper P (s k) (failures k))
     → IfOk r (λ k. IsNewKeeper Q (s k) (failures k))
 keepers_so P Q s failures (Ok k) way new = keeper_so P Q (s k) (failures k) (way k) new
 keepers_so P Q s failures (Err e) way new = tt
 
 -- a new keeper whose database was read is still new
-pub keepers_left : {K E : Type 0} (P : Trees → Type 0) (old : State) (s : K → State) (n : ℕ) (failures : K → ℕ) (r : Result K E) → IsNewKeeper P old n → IfOk r (λ k. IsLeftOpen old (s k)) → IfOk r (λ k. failures k ≡ n)
+pub keepers_left : {K E : Type 0} (P : Trees → Type 0) (old : State) (s : K → State) (n : ℕ) (failures : K → ℕ) (r : Result K E)
+    → IsNewKeeper P old n → IfOk r (λ k. IsLeftOpen old (s k)) → IfOk r (λ k. failures k ≡ n)
     → IfOk r (λ k. IsNewKeeper P (s k) (failures k))
 keepers_left P old s n failures (Ok k) new left same = record {
   opens = λ clean. left.lasts clean (new.opens (left.clean clean));

@@ -51,7 +51,8 @@ module _ {X : Type 0} (old new : State) (r : Result X Error) (P : X → Type 0) 
   told (Ok x) out is bad = is
   told (Err e) out is bad = bad
 
-  by_result : (Q : Result (Unit {0}) Error → Type 0) (s : Result X Error) (out : Result (Unit {0}) Error) → Compiled s out → ((x : X) → s ≡ Ok x → Q (Ok tt)) → ((e : Error) → s ≡ Err e → Q (Err e)) → Q out
+  by_result : (Q : Result (Unit {0}) Error → Type 0) (s : Result X Error) (out : Result (Unit {0}) Error)
+      → Compiled s out → ((x : X) → s ≡ Ok x → Q (Ok tt)) → ((e : Error) → s ≡ Err e → Q (Err e)) → Q out
   by_result Q (Ok x) out is good bad = subst Q (sym is) (good x refl)
   by_result Q (Err e) out is good bad = subst Q (sym is) (bad e refl)
 

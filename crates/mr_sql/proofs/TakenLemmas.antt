@@ -50,7 +50,8 @@ is_table shape.Pageless h = absurd (omega arith)
 is_table shape.FrozenTable h = absurd (omega arith)
 is_table (shape.FrozenIndex o) h = absurd (omega arith)
 
-pub rises : (shapes : ℕ → Shape) (reals : ℕ → ℕ) (trees : Trees) (schema : Schema) (table : Table) → IsOrdered shapes trees → IsListed (trees catalog_tree) shapes reals → IsSound schema trees → Has schema.tables table
+pub rises : (shapes : ℕ → Shape) (reals : ℕ → ℕ) (trees : Trees) (schema : Schema) (table : Table)
+    → IsOrdered shapes trees → IsListed (trees catalog_tree) shapes reals → IsSound schema trees → Has schema.tables table
     → IsShelf (trees table.tree)
 rises shapes reals trees schema table ordered listed sound here =
     let objects = trees catalog_tree in
@@ -67,7 +68,8 @@ rises shapes reals trees schema table ordered listed sound here =
     let shaped = subst (λ s. IsShaped s (trees tree)) (is_table _ code) (ordered tree) in
     record { rise = shaped.0; keyed = shaped.1 }
 
-pub has_shelves : (shapes : ℕ → Shape) (reals : ℕ → ℕ) (trees : Trees) (db : Database) → IsOrdered shapes trees → IsListed (trees catalog_tree) shapes reals → db.trees ≡ trees → IsSound db.schema db.trees → HasShelves db
+pub has_shelves : (shapes : ℕ → Shape) (reals : ℕ → ℕ) (trees : Trees) (db : Database) → IsOrdered shapes trees
+    → IsListed (trees catalog_tree) shapes reals → db.trees ≡ trees → IsSound db.schema db.trees → HasShelves db
 has_shelves shapes reals trees db ordered listed same sound table here =
     subst (λ (all : Trees). IsShelf (all table.tree)) (sym same) (rises shapes reals trees db.schema table ordered listed (subst (IsSound db.schema) same sound) here)
 
@@ -129,8 +131,10 @@ strange_others whose.Anyones s taken none ours first = ((λ sound. absurd (ours 
 
 -- no tables are no replica's
 pub strange_none : (s : State) → IsTaken s → s.now.schema ≡ no_schema → IsNobodys s.now.trees
-strange_none s taken none =
-    ((λ ours. absurd (not_other s no_schema our_schema taken none (λ same. omega (arith, same)) ours)), (λ first. absurd (not_other s no_schema first_schema taken none (λ same. omega (arith, same)) first)))
+strange_none s taken none = (
+  (λ ours. absurd (not_other s no_schema our_schema taken none (λ same. omega (arith, same)) ours)),
+  (λ first. absurd (not_other s no_schema first_schema taken none (λ same. omega (arith, same)) first)),
+)
 
 pub somebodys : (w : Whose) (trees : Trees) → AreSomebodys trees → MayFailFor w trees
 somebodys (whose.Of server primary) trees are = inr are

@@ -10,7 +10,7 @@ ghost use Rattle.mr_part.specs.NextId.{id_given};
 ghost use Rattle.mr_part.specs.Parts.{IsPartOf};
 ghost use Rattle.mr_part.specs.ScopeOf.{scope_of};
 ghost use Rattle.mr_tables.specs.Summary.{IsWithin, summary_of};
-ghost use Rattle.mr_store.specs.Taken.{is_taken};
+ghost use Rattle.mr_store.specs.Taken.{is_id_taken};
 ghost use Rattle.mr_rows.specs.Database.{tables_in};
 ghost use Rattle.mr_rows.specs.Reads.{ReadsInUse, ReadsKept};
 ghost use Rattle.mr_sql.specs.Enough.{AreEnough};
@@ -145,9 +145,9 @@ fn free_part(alloc: Global, scope: &Scope<'_>, tables: &Tables) -> Result<Part, 
     ensures part { IfOk result
         (λ part. (a : Replica) → IsReplica a → in_scope (scope_of scope.now) tables.now ≡ in_scope (scope_of scope.now) (tables_of a)
         → IsPartOf part (scope_of scope.now) a) }
-    ensures free { IfOk result (λ part. is_taken (id_given (scope_of scope.now) part.summary) tables.now ≡ false) }
+    ensures free { IfOk result (λ part. is_id_taken (id_given (scope_of scope.now) part.summary) tables.now ≡ false) }
     ensures only { (a : Replica) → IsReplica a → in_scope (scope_of scope.now) tables.now ≡ in_scope (scope_of scope.now) (tables_of a)
-        → is_taken (id_given (scope_of scope.now) (summary_of a)) tables.now ≡ false → IfErr result (λ e. e ≡ Error.SqliteFailure ErrorCode.OutOfMemory) }
+        → is_id_taken (id_given (scope_of scope.now) (summary_of a)) tables.now ≡ false → IfErr result (λ e. e ≡ Error.SqliteFailure ErrorCode.OutOfMemory) }
     ensures within { IfOk result (λ part. IsWithin part.summary) }
 {
     let part = part_of(alloc, scope, tables)?;
@@ -167,7 +167,7 @@ pub(crate) fn load_part<S: Alter>(
     requires fresh { HasCleanDisk (state S.Store conn.old) → IsTrue (state S.Store conn.old).is_open → AreFresh fresh (state S.Store conn.old) }
     ensures reads { ReadsInUse (state S.Store conn.old) (state S.Store conn.new) result
         (λ part. ((a : Replica) → Stands (tables_in (state S.Store conn.old).now.trees) a → IsPartOf part (scope_of scope.now) a)
-        × (is_taken (id_given (scope_of scope.now) part.summary) (tables_in (state S.Store conn.old).now.trees) ≡ false)) }
+        × (is_id_taken (id_given (scope_of scope.now) part.summary) (tables_in (state S.Store conn.old).now.trees) ≡ false)) }
     ensures within { IfOk result (λ part. IsWithin part.summary) }
     ensures failed { FailsByStoreAlone (state S.Store conn.old) (state S.Store conn.new) result }
 {

@@ -12,7 +12,7 @@ ghost use Rattle.mr_part.specs.ScopeOf.{scope_of};
 ghost use Rattle.mr_tables.specs.Summary.{IsWithin};
 ghost use Rattle.mr_store.specs.Answers.{IsAnswerTo, IsNamedAs};
 ghost use Rattle.mr_store.specs.KeeperCalls.{failures_for};
-ghost use Rattle.mr_store.specs.Taken.{is_taken};
+ghost use Rattle.mr_store.specs.Taken.{is_id_taken};
 ghost use Rattle.mr_rows.specs.Database.{IsKept, tables_in};
 ghost use Rattle.mr_sql.specs.Calls.{IsAtomicCall, IsQuietCall};
 ghost use Rattle.mr_sql.specs.Found.{AreFresh, IsAdopted, IsResumed, IsTaken, LeavesTables};
@@ -108,7 +108,7 @@ impl<S: Alter> SqlKeeper<S> {
         ensures loaded { HasCleanDisk (state S.Store self.new.0) → IsTrue (state S.Store self.old.0).is_open
             → (a : Replica) → Stands (tables_in (state S.Store self.old.0).now.trees) a → IfOk result (λ part. IsPartOf part (scope_of scope.now) a) }
         ensures free { HasCleanDisk (state S.Store self.new.0) → IsTrue (state S.Store self.old.0).is_open
-            → IfOk result (λ part. is_taken (id_given (scope_of scope.now) part.summary) (tables_in (state S.Store self.old.0).now.trees) ≡ false) }
+            → IfOk result (λ part. is_id_taken (id_given (scope_of scope.now) part.summary) (tables_in (state S.Store self.old.0).now.trees) ≡ false) }
         ensures within { IfOk result (λ part. IsWithin part.summary) }
     {
         let fresh = self.fresh.take();

@@ -85,7 +85,8 @@ module _ {K : Type 0} (tables : K → Tables) (failures : K → ℕ) (is_clean i
     }
 
     -- what is answered of its tables then is so of those before
-    pub told_then : {X Y : Type 0} (P : Tables → Type 0) (x : X) (r : Result Y Fault) → Quiet old mid (Ok x) → Quiet mid new r → (is_clean new → is_open mid → P (tables mid)) → is_clean new → is_open old → P (tables old)
+    pub told_then : {X Y : Type 0} (P : Tables → Type 0) (x : X) (r : Result Y Fault) → Quiet old mid (Ok x)
+        → Quiet mid new r → (is_clean new → is_open mid → P (tables mid)) → is_clean new → is_open old → P (tables old)
     told_then P x r first next told u o =
         let opened = first.lasts (next.clean u) o in
         subst P (first.same (next.clean u) opened) (told u opened)

@@ -87,7 +87,8 @@ so (Ok x) p = p
 so (Err e) p = tt
 
 -- the rows in memory were asked for, and they answer: no failure is counted
-pub by_memory : {K Y : Type 0} (k : Ghosts K) (old mid at : K) (memory : Option Tables) (t : Tables) (r : Result Y Fault) → IsRecall k old mid (Ok memory) → at ≡ mid → memory ≡ Some t → IsOpenWith k mid memory
+pub by_memory : {K Y : Type 0} (k : Ghosts K) (old mid at : K) (memory : Option Tables) (t : Tables) (r : Result Y Fault)
+    → IsRecall k old mid (Ok memory) → at ≡ mid → memory ≡ Some t → IsOpenWith k mid memory
     → ((n : ℕ) → failures_after r n ≡ n) → QuietAbove k old at r
 by_memory k old mid at memory t r first is some held counted =
     let opened = subst (λ m. IsOpenWith k mid m) some held in
@@ -104,14 +105,16 @@ by_memory k old mid at memory t r first is some held counted =
     })
 
 -- what the keeper itself answers then holds of its tables before both
-pub of_keeper : {K X Y : Type 0} (k : Ghosts K) (P : Tables → Type 0) (old mid at new : K) (x : X) (r : Result Y Fault) → IsRecall k old mid (Ok x) → at ≡ mid → Quiet k at new r → (k.is_clean new → k.is_open at → P (k.tables at)) → k.is_clean new → k.is_open old → P (k.tables old)
+pub of_keeper : {K X Y : Type 0} (k : Ghosts K) (P : Tables → Type 0) (old mid at new : K) (x : X) (r : Result Y Fault) → IsRecall k old mid (Ok x)
+    → at ≡ mid → Quiet k at new r → (k.is_clean new → k.is_open at → P (k.tables at)) → k.is_clean new → k.is_open old → P (k.tables old)
 of_keeper k P old mid at new x r first is next told u o =
     let clean = subst (λ m. Quiet k m new r) is next in
     let opened = first.lasts (clean.clean u) o in
     subst P (first.same (clean.clean u) opened) (subst (λ m. k.is_clean new → k.is_open m → P (k.tables m)) is told u opened)
 
 -- what holds of the rows in memory holds of the tables
-pub of_memory : {K : Type 0} (k : Ghosts K) (P : Tables → Type 0) (old mid at : K) (memory : Option Tables) (t : Tables) → IsRecall k old mid (Ok memory) → at ≡ mid → IsMemoryOf k mid memory → memory ≡ Some t → P t → k.is_clean at → k.is_open old → P (k.tables old)
+pub of_memory : {K : Type 0} (k : Ghosts K) (P : Tables → Type 0) (old mid at : K) (memory : Option Tables) (t : Tables)
+    → IsRecall k old mid (Ok memory) → at ≡ mid → IsMemoryOf k mid memory → memory ≡ Some t → P t → k.is_clean at → k.is_open old → P (k.tables old)
 of_memory k P old mid at memory t first is has some p u o =
     let clean = subst (λ m. k.is_clean m) is u in
     let opened = first.lasts clean o in
@@ -140,17 +143,20 @@ changed_above k change old at new r is q =
       settled = q.settled;
     })
 
-changed_rows : {K X : Type 0} (k : Ghosts K) (change : ChangeView) (old new : K) (x : X) (before after : Option Tables) → Atomic k change old new (Ok x) → IsMemoryOf k old before → IsMemoryAfter change before after → IsMemoryOf k new after
+changed_rows : {K X : Type 0} (k : Ghosts K) (change : ChangeView) (old new : K) (x : X) (before after : Option Tables)
+    → Atomic k change old new (Ok x) → IsMemoryOf k old before → IsMemoryAfter change before after → IsMemoryOf k new after
 changed_rows k change old new x before None q was is = tt
 changed_rows k change old new x None (Some t) q was is = absurd is
 changed_rows k change old new x (Some s) (Some t) q was is = λ u o. is ∙ ap (changed change) (was (q.clean u) (q.opens u o)) ∙ sym (q.applied u o)
 
-kept_rows : {K X : Type 0} (k : Ghosts K) (change : ChangeView) (old new : K) (e : Fault) (rows : Option Tables) → Atomic {X = X} k change old new (Err e) → IsMemoryOf k old rows → IsMemoryOf k new rows
+kept_rows : {K X : Type 0} (k : Ghosts K) (change : ChangeView) (old new : K) (e : Fault) (rows : Option Tables)
+    → Atomic {X = X} k change old new (Err e) → IsMemoryOf k old rows → IsMemoryOf k new rows
 kept_rows k change old new e None q was = tt
 kept_rows k change old new e (Some t) q was = λ u o. was (q.clean u) (q.opens u o) ∙ sym (q.refused u o)
 
 -- the rows in memory are still those of the keeper, once both are changed, or neither is
-pub changed_both : {K X : Type 0} (k : Ghosts K) (change : ChangeView) (old new : K) (r : Result X Fault) (before after : Option Tables) → Atomic k change old new r → IsMemoryOf k old before → OnOk r (IsMemoryAfter change before after) → OnErr r (after ≡ before) → IsMemoryOf k new after
+pub changed_both : {K X : Type 0} (k : Ghosts K) (change : ChangeView) (old new : K) (r : Result X Fault) (before after : Option Tables)
+    → Atomic k change old new r → IsMemoryOf k old before → OnOk r (IsMemoryAfter change before after) → OnErr r (after ≡ before) → IsMemoryOf k new after
 changed_both k change old new (Ok x) before after q was made kept = changed_rows k change old new x before after q was made
 changed_both k change old new (Err e) before after q was made kept = subst (λ m. IsMemoryOf k new m) (sym kept) (kept_rows k change old new e before q was)
 

@@ -20,7 +20,9 @@ always (Ok x) = tt
 always (Err e) = tt
 
 -- a call that leaves the tables, and counts a failure only of tables that stand for no replica
-pub quiet_lists : {X : Type 0} (old new : ListsView) (r : Result X Fault) → new.tables ≡ old.tables → new.failures ≡ failures_after r old.failures → ((a : Replica) → Stands old.tables a → new.failures ≡ old.failures) → IsQuiet (λ (k : ListsView). k.tables) (λ k. k.failures) (λ k. Unit {0}) (λ k. Unit {0}) (λ k t. t ≡ k.tables) (Unit {0}) old new r
+pub quiet_lists : {X : Type 0} (old new : ListsView) (r : Result X Fault) → new.tables ≡ old.tables
+    → new.failures ≡ failures_after r old.failures → ((a : Replica) → Stands old.tables a → new.failures ≡ old.failures)
+    → IsQuiet (λ (k : ListsView). k.tables) (λ k. k.failures) (λ k. Unit {0}) (λ k. Unit {0}) (λ k t. t ≡ k.tables) (Unit {0}) old new r
 quiet_lists old new r same counted sure = record {
   clean = λ u. tt;
   opens = λ u o. tt;

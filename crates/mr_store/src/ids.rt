@@ -2,14 +2,14 @@ ghost use Rattle.std.specs.Prelude.{◌≡◌};
 ghost use Rattle.std.specs.List.{list_any};
 ghost use Rattle.mr_model.specs.Writes.{same_id};
 ghost use Rattle.mr_agree.specs.Ids.{has_place_of};
-ghost use Rattle.mr_replica.specs.Taken.{is_taken};
+ghost use Rattle.mr_replica.specs.Taken.{is_id_taken};
 
 use mr_base::WriteId;
 use mr_tables::{IdRow, Tables};
 
 /// Whether a row of `log`, or one of what became of writes, has the id that a command would give, if it gives one. All rows are looked at.
 pub fn is_taken(tables: &Tables, id: Option<WriteId>) -> bool
-    ensures { result ≡ is_taken id tables.now }
+    ensures { result ≡ is_id_taken id tables.now }
 {
     match id {
         Some(id) => has(&tables.log, id) || has_place_of(tables, id),

@@ -11,7 +11,7 @@ ghost use Rattle.mr_replica.specs.Answers.{IsAnswerTo, IsNamedAs};
 ghost use Rattle.mr_store.specs.KeeperCalls.{failures_for, fault_refusal, IsAtomic, IsQuiet};
 ghost use Rattle.mr_store.specs.declared.keeper.Fault.{Fault};
 ghost use Rattle.mr_replica.specs.Picked.{picked_errors, picked_cancelled, picked_cancels, AreBookings, IsPlaceOf};
-ghost use Rattle.mr_replica.specs.Taken.{is_taken};
+ghost use Rattle.mr_replica.specs.Taken.{is_id_taken};
 
 use crate::{Answer, Question};
 use mr_base::{Day, Refusal, RoomName, WriteId};
@@ -108,7 +108,7 @@ pub trait Keeper {
     fn load_part(&mut self, scope: &Scope<'_>) -> Result<Part, Fault>
         ensures quiet { IsQuiet tables failures is_clean is_open may_leave never_fails self.old self.new result }
         ensures loaded { is_clean self.new → is_open self.old → (a : Replica) → Stands (tables self.old) a → IfOk result (λ part. IsPartOf part (scope_of scope.now) a) }
-        ensures free { is_clean self.new → is_open self.old → IfOk result (λ part. is_taken (id_given (scope_of scope.now) part.summary) (tables self.old) ≡ false) }
+        ensures free { is_clean self.new → is_open self.old → IfOk result (λ part. is_id_taken (id_given (scope_of scope.now) part.summary) (tables self.old) ≡ false) }
         ensures within { IfOk result (λ part. IsWithin part.summary) };
 
     /// What the tables answer to the question, in the variant of its name.

@@ -8,7 +8,7 @@ ghost use Rattle.mr_part.specs.Parts.{IsPartOf};
 ghost use Rattle.mr_part.specs.ScopeOf.{scope_of};
 ghost use Rattle.mr_replica.specs.Answers.{IsAnswerTo, IsNamedAs};
 ghost use Rattle.mr_store.specs.KeeperCalls.{failures_for};
-ghost use Rattle.mr_replica.specs.Taken.{is_taken};
+ghost use Rattle.mr_replica.specs.Taken.{is_id_taken};
 ghost use Rattle.mr_store.specs.Trips.{is_due, IsTripped, IsQuietAt, IsAtomicAt};
 
 use crate::{Answer, Fault, Keeper, Question};
@@ -81,7 +81,7 @@ impl<K: Keeper> Keeper for Tripped<K> {
     fn load_part(&mut self, scope: &Scope<'_>) -> Result<Part, Fault>
         ensures quiet { IsQuietAt ⟦<Tripped<K> as Keeper>⟧ self.old self.new result }
         ensures loaded { K.is_clean self.new.keeper → K.is_open self.old.keeper → (a : Replica) → Stands (K.tables self.old.keeper) a → IfOk result (λ part. IsPartOf part (scope_of scope.now) a) }
-        ensures free { K.is_clean self.new.keeper → K.is_open self.old.keeper → IfOk result (λ part. is_taken (id_given (scope_of scope.now) part.summary) (K.tables self.old.keeper) ≡ false) }
+        ensures free { K.is_clean self.new.keeper → K.is_open self.old.keeper → IfOk result (λ part. is_id_taken (id_given (scope_of scope.now) part.summary) (K.tables self.old.keeper) ≡ false) }
         ensures within { IfOk result (λ part. IsWithin part.summary) }
         ensures trips { IsTripped self.old self.new result }
     {

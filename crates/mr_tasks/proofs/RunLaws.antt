@@ -1,5 +1,6 @@
 -- What a reader had, and what is printed of a run.
-use Rattle.std.proofs.Common.{◌≡◌, refl, sym, ap, subst, ◌∙◌, ℕ, suc, zero, ◌<◌, ◌≤◌, List, [], ◌∷◌, ◌++◌, length, map, take, get_or, min, Option, Some, None, append-nil, arith, take_all, not-suc-le-zero, le_of_suc-le-suc}
+use Rattle.std.proofs.Common.{◌≡◌, refl, sym, ap, subst, ◌∙◌, ℕ, suc, zero, ◌<◌, ◌≤◌, List, [], ◌∷◌, ◌++◌, length, map, take}
+use Rattle.std.proofs.Common.{get_or, min, Option, Some, None, append-nil, arith, take_all, not-suc-le-zero, le_of_suc-le-suc}
 use Rattle.std.proofs.KnownBytes.{Appends-trans}
 use Rattle.std.proofs.lemmas.Grind.{flat_map-append}
 use Rattle.std.specs.Io.KnownBytes.{Appends}
@@ -54,4 +55,5 @@ prints_more held holds next replies i reply low is so_far more =
 pub prints_all : (held holds : Option Text) (replies : List StepReply) (i : ℕ) → Appends held holds (flat_map step_reply_text (take i (map step_reply_of replies))) → length replies ≤ i
     → Appends held holds (printed replies)
 prints_all held holds replies i so_far low =
-    subst (λ (rs : List StepReplyOfWorld). Appends held holds (flat_map step_reply_text rs)) (take_all i (map step_reply_of replies) (subst (λ n. n ≤ i) (sym (length-map replies step_reply_of)) low)) so_far
+    subst (λ (rs : List StepReplyOfWorld). Appends held holds (flat_map step_reply_text rs))
+    (take_all i (map step_reply_of replies) (subst (λ n. n ≤ i) (sym (length-map replies step_reply_of)) low)) so_far

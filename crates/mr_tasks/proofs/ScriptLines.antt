@@ -1,5 +1,6 @@
 -- A line is read as a step exactly where it is that step's line.
-use Rattle.std.proofs.Common.{◌≡◌, refl, sym, ap, subst, ◌∙◌, ℕ, zero, suc, ◌^◌, ◌<◌, ◌≤◌, Bool, true, false, not, ◌&&◌, ◌||◌, leb, eqb, eqb-true, ne_eqb, ◌⊎◌, inl, inr, List, [], ◌∷◌, ◌++◌, length, take, arith, le-leb, leb-true, lit<, Option, Some, None}
+use Rattle.std.proofs.Common.{◌≡◌, refl, sym, ap, subst, ◌∙◌, ℕ, zero, suc, ◌^◌, ◌<◌, ◌≤◌, Bool, true, false, not, ◌&&◌, ◌||◌, leb, eqb, eqb-true}
+use Rattle.std.proofs.Common.{ne_eqb, ◌⊎◌, inl, inr, List, [], ◌∷◌, ◌++◌, length, take, arith, le-leb, leb-true, lit<, Option, Some, None}
 use Rattle.std.proofs.lemmas.Bool.{and_parts, and_from, false≢true, lt-leb, not-true, cond-true, cond-false, cases_Bool, false_from_ne_true}
 use Rattle.std.proofs.lemmas.Option.{none-some, same_Some}
 use Rattle.std.proofs.lemmas.Fmt.{decimal_is_IsNumeral}
@@ -30,8 +31,10 @@ use Rattle.mr_words.specs.CommandSpelling.{spelled, may_be_spelled}
 use Rattle.mr_words.proofs.TableRows.{EachRow, by_rows, each_behind, each_then, if_some}
 use Rattle.mr_words.proofs.CommandsSpelled.{IsSpelled, is_shared, number_from_parts, shared_spelled}
 use Rattle.mr_words.proofs.CommandsReadBack.{count_back}
-use Rattle.mr_tasks.specs.RehearsalScript.{is_word, words_of_slot, booking_words, all_bytes, length_word, is_byte_count, script_spelled, step_words, step_line, are_slot_words, is_submission, has_words, has_line, is_plain, IsScriptLine}
-use Rattle.mr_tasks.specs.LineSteps.{cut_first_word, cut_server, cut_slot, with_slot, cut_slots, number_of_slots, submission_cut, book_step, replica_step, batch_step, batch_number_in, byte_count_in, deliver_step, script_commands, at_server, script_rows, row_step, step_in}
+use Rattle.mr_tasks.specs.RehearsalScript.{is_word, words_of_slot, booking_words, all_bytes, length_word, is_byte_count, script_spelled, step_words}
+use Rattle.mr_tasks.specs.RehearsalScript.{step_line, are_slot_words, is_submission, has_words, has_line, is_printable, IsScriptLine}
+use Rattle.mr_tasks.specs.LineSteps.{cut_first_word, cut_server, cut_slot, with_slot, cut_slots, number_of_slots, submission_cut, book_step, replica_step}
+use Rattle.mr_tasks.specs.LineSteps.{batch_step, batch_number_in, byte_count_in, deliver_step, script_commands, at_server, script_rows, row_step, step_in}
 use Rattle.mr_tasks.proofs.WordLaws.{cut_of, cut_parts, number_from_decimal, decimal_word}
 
 -- ---- numbers of bytes
@@ -109,15 +112,18 @@ number_of_slots_parts t k rest e =
       found.1 ∙ ap (λ (u : Text). u ++ 32 ∷ p.1) number.1 ∙ ap (λ (q : ℕ × Text). decimal q.0 ++ 32 ∷ q.1) same,
     )
 
-booking_line : (b : Submission) → words (booking_words b) ≡ b.room ++ 32 ∷ (b.length ++ 32 ∷ (b.wish.day ++ 32 ∷ (b.wish.time ++ 32 ∷ (decimal (length b.alternatives) ++ 32 ∷ words (flat_map words_of_slot b.alternatives ++ b.title ∷ [])))))
+booking_line : (b : Submission) → words (booking_words b) ≡ b.room ++ 32 ∷
+    (b.length ++ 32 ∷ (b.wish.day ++ 32 ∷ (b.wish.time ++ 32 ∷ (decimal (length b.alternatives) ++ 32 ∷ words (flat_map words_of_slot b.alternatives ++ b.title ∷ [])))))
 booking_line b =
     ap (λ (u : Text). b.room ++ 32 ∷ (b.length ++ 32 ∷ (b.wish.day ++ 32 ∷ (b.wish.time ++ 32 ∷ u))))
     (words-cons (decimal (length b.alternatives)) (flat_map words_of_slot b.alternatives) b.title)
 
 booking_parts : (t : Text) (b : Submission) → submission_cut t ≡ Some b → (is_submission b ≡ true) × (t ≡ words (booking_words b))
 booking_parts t b e =
-    let others_in = λ (room minutes : Text × Text) (wish : SlotWords × Text) (k : ℕ × Text). (cut_slots k.0 k.1 >>= λ o. Some (record { room = room.0; title = o.1; length = minutes.0; wish = wish.0; alternatives = o.0 })) in
-    let (room, room_cut, e1) = bind_some (cut_first_word t) (λ room. (cut_first_word room.1 >>= λ minutes. (cut_slot minutes.1 >>= λ wish. (number_of_slots wish.1 >>= λ k. others_in room minutes wish k)))) b e in
+    let others_in = λ (room minutes : Text × Text) (wish : SlotWords × Text) (k : ℕ × Text).
+    (cut_slots k.0 k.1 >>= λ o. Some (record { room = room.0; title = o.1; length = minutes.0; wish = wish.0; alternatives = o.0 })) in
+    let (room, room_cut, e1) = bind_some (cut_first_word t)
+    (λ room. (cut_first_word room.1 >>= λ minutes. (cut_slot minutes.1 >>= λ wish. (number_of_slots wish.1 >>= λ k. others_in room minutes wish k)))) b e in
     let (minutes, minutes_cut, e2) = bind_some (cut_first_word room.1) (λ minutes. (cut_slot minutes.1 >>= λ wish. (number_of_slots wish.1 >>= λ k. others_in room minutes wish k))) b e1 in
     let (wish, wish_cut, e3) = bind_some (cut_slot minutes.1) (λ wish. (number_of_slots wish.1 >>= λ k. others_in room minutes wish k)) b e2 in
     let (k, k_cut, e4) = bind_some (number_of_slots wish.1) (λ k. others_in room minutes wish k) b e3 in
@@ -318,7 +324,8 @@ cut_server_of s rest h =
 cut_slot_of : (s : SlotWords) (rest : Text) → are_slot_words s ≡ true → cut_slot (s.day ++ 32 ∷ (s.time ++ 32 ∷ rest)) ≡ Some (s, rest)
 cut_slot_of s rest h =
     let both = and_parts (is_word s.day) (is_word s.time) h in
-    bound (cut_first_word (s.day ++ 32 ∷ (s.time ++ 32 ∷ rest))) (s.day, s.time ++ 32 ∷ rest) (λ p. (cut_first_word p.1 >>= λ q. Some (record { day = p.0; time = q.0 }, q.1))) (cut_of s.day (s.time ++ 32 ∷ rest) both.0)
+    bound (cut_first_word (s.day ++ 32 ∷ (s.time ++ 32 ∷ rest))) (s.day, s.time ++ 32 ∷ rest)
+    (λ p. (cut_first_word p.1 >>= λ q. Some (record { day = p.0; time = q.0 }, q.1))) (cut_of s.day (s.time ++ 32 ∷ rest) both.0)
     ∙ bound (cut_first_word (s.time ++ 32 ∷ rest)) (s.time, rest) (λ q. Some (record { day = s.day; time = q.0 }, q.1)) (cut_of s.time rest both.1)
 
 cut_slots_of : (ss : List SlotWords) (rest : Text) → list_all are_slot_words ss ≡ true → cut_slots (length ss) (words (flat_map words_of_slot ss ++ rest ∷ [])) ≡ Some (ss, rest)
@@ -347,10 +354,13 @@ booking_of b h =
     let u4 : Text = decimal (length b.alternatives) ++ 32 ∷ u5 in
     let u3 : Text = b.wish.day ++ 32 ∷ (b.wish.time ++ 32 ∷ u4) in
     let u2 : Text = b.length ++ 32 ∷ u3 in
-    let made = λ (room minutes : Text × Text) (wish : SlotWords × Text) (o : List SlotWords × Text). Some (record { room = room.0; title = o.1; length = minutes.0; wish = wish.0; alternatives = o.0 }) in
+    let made = λ (room minutes : Text × Text) (wish : SlotWords × Text) (o : List SlotWords × Text). Some
+    (record { room = room.0; title = o.1; length = minutes.0; wish = wish.0; alternatives = o.0 }) in
     ap submission_cut (booking_line b)
-    ∙ bound (cut_first_word (b.room ++ 32 ∷ u2)) (b.room, u2) (λ room. (cut_first_word room.1 >>= λ minutes. (cut_slot minutes.1 >>= λ wish. (number_of_slots wish.1 >>= λ k. (cut_slots k.0 k.1 >>= λ o. made room minutes wish o))))) (cut_of b.room u2 rm.0)
-    ∙ bound (cut_first_word u2) (b.length, u3) (λ minutes. (cut_slot minutes.1 >>= λ wish. (number_of_slots wish.1 >>= λ k. (cut_slots k.0 k.1 >>= λ o. made (b.room, u2) minutes wish o)))) (cut_of b.length u3 rm.1)
+    ∙ bound (cut_first_word (b.room ++ 32 ∷ u2)) (b.room, u2) (λ room. (cut_first_word room.1
+    >>= λ minutes. (cut_slot minutes.1 >>= λ wish. (number_of_slots wish.1 >>= λ k. (cut_slots k.0 k.1 >>= λ o. made room minutes wish o))))) (cut_of b.room u2 rm.0)
+    ∙ bound (cut_first_word u2) (b.length, u3)
+    (λ minutes. (cut_slot minutes.1 >>= λ wish. (number_of_slots wish.1 >>= λ k. (cut_slots k.0 k.1 >>= λ o. made (b.room, u2) minutes wish o)))) (cut_of b.length u3 rm.1)
     ∙ bound (cut_slot u3) (b.wish, u4) (λ wish. (number_of_slots wish.1 >>= λ k. (cut_slots k.0 k.1 >>= λ o. made (b.room, u2) (b.length, u3) wish o))) (cut_slot_of b.wish u4 w.1)
     ∙ bound (number_of_slots u4) (length b.alternatives, u5) (λ k. (cut_slots k.0 k.1 >>= λ o. made (b.room, u2) (b.length, u3) (b.wish, u4) o)) (number_of_slots_of (length b.alternatives) u5 n.1)
     ∙ bound (cut_slots (length b.alternatives) u5) (b.alternatives, b.title) (made (b.room, u2) (b.length, u3) (b.wish, u4)) (cut_slots_of b.alternatives b.title a.1)
@@ -475,14 +485,15 @@ step_in_of (Deliver batch to bytes) h =
     (and_from (is_word (decimal batch)) (is_word (decimal to) && (is_word (length_word bytes) && true)) (decimal_word batch small)
     (and_from (is_word (decimal to)) (is_word (length_word bytes) && true) (decimal_word to (server_small to two.0))
     (and_from (is_word (length_word bytes)) true (length_is_word bytes two.1) refl)))
-    (bound (batch_number_in (decimal batch)) batch (λ b. (server_in (decimal to) >>= λ t. (byte_count_in (length_word bytes) >>= λ n. Some (Deliver b t n)))) (number_from_decimal 0 999_999_999 batch both.0 small)
+    (bound (batch_number_in (decimal batch)) batch (λ b. (server_in (decimal to) >>= λ t. (byte_count_in (length_word bytes) >>= λ n. Some (Deliver b t n))))
+    (number_from_decimal 0 999_999_999 batch both.0 small)
     ∙ bound (server_in (decimal to)) to (λ t. (byte_count_in (length_word bytes) >>= λ n. Some (Deliver batch t n))) (server_word to two.0)
     ∙ bound (byte_count_in (length_word bytes)) bytes (λ n. Some (Deliver batch to n)) (length_of bytes two.1))
 
 -- ---- lines of the table
 
 -- a line of printable bytes that is read as a step is the line of that step
-pub stands_for : (line : Text) (s : Step) → is_plain line ≡ true → step_in line ≡ Some s → IsScriptLine line s
+pub stands_for : (line : Text) (s : Step) → is_printable line ≡ true → step_in line ≡ Some s → IsScriptLine line s
 stands_for line s plain e = let parts = step_in_parts line s e in record { spelled = parts.1; of_table = parts.0; plain = plain }
 
 -- a line that is read as none is the line of none
@@ -490,22 +501,22 @@ pub stands_for_none : (line : Text) → step_in line ≡ None → (s : Step) →
 stands_for_none line e s h = none-some s (sym e ∙ ap step_in h.spelled ∙ step_in_of s h.of_table)
 
 -- what the reading of a text answers, as an answer about lines of the table
-pub reading_stands : {T : Type 0} (line : Text) (view : T → Step) (found : Option T) → is_plain line ≡ true
+pub reading_stands : {T : Type 0} (line : Text) (view : T → Step) (found : Option T) → is_printable line ≡ true
     → MatchOption found (step_in line ≡ None) (λ s. step_in line ≡ Some (view s)) → MatchOption found ((s : Step) → ¬ IsScriptLine line s) (λ s. IsScriptLine line (view s))
 reading_stands line view None plain e = stands_for_none line e
 reading_stands line view (Some s) plain e = stands_for line (view s) plain e
 
-plain_low : (t : Text) → is_plain t ≡ true → (i : ℕ) → slice_index t i < 128
+plain_low : (t : Text) → is_printable t ≡ true → (i : ℕ) → slice_index t i < 128
 plain_low [] h i = omega arith
 plain_low (c ∷ cs) h zero = let low : c ≤ 126 = leb-true c 126 (and_parts (leb 32 c) (leb c 126) (and_parts (within 32 126 c) (list_all (λ d. within 32 126 d) cs) h).0).1 in omega (arith, low)
 plain_low (c ∷ cs) h (suc i) = plain_low cs (and_parts (within 32 126 c) (list_all (λ d. within 32 126 d) cs) h).1 i
 
 -- printable bytes are a text
-pub plain_text : (t : Text) → is_plain t ≡ true → IsUtf8 t
+pub plain_text : (t : Text) → is_printable t ≡ true → IsUtf8 t
 plain_text t h = IsUtf8-from_ascii t (plain_low t h)
 
 -- the same of a line and its text
-pub reading_stands_at : {T E : Type 0} (line text : Text) (view : T → Step) (result : Result (Option T) E) → text ≡ line → is_plain line ≡ true
+pub reading_stands_at : {T E : Type 0} (line text : Text) (view : T → Step) (result : Result (Option T) E) → text ≡ line → is_printable line ≡ true
     → IfOk result (λ found. MatchOption found (step_in text ≡ None) (λ s. step_in text ≡ Some (view s)))
     → IfOk result (λ found. MatchOption found ((s : Step) → ¬ IsScriptLine line s) (λ s. IsScriptLine line (view s)))
 reading_stands_at {T} line text view (Ok found) same plain h =

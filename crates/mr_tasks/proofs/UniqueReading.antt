@@ -1,5 +1,6 @@
 -- A script is read in one way.
-use Rattle.std.proofs.Common.{◌≡◌, refl, sym, ap, subst, ◌∙◌, ℕ, ◌+◌, ◌<◌, true, false, List, [], ◌∷◌, ◌++◌, length, ◌⊎◌, inl, inr, suc-ne-zero, not-suc-le-zero, le_of_suc-le-suc, append-nil, append_assoc}
+use Rattle.std.proofs.Common.{◌≡◌, refl, sym, ap, subst, ◌∙◌, ℕ, ◌+◌, ◌<◌, true, false, List, [], ◌∷◌, ◌++◌, length, ◌⊎◌}
+use Rattle.std.proofs.Common.{inl, inr, suc-ne-zero, not-suc-le-zero, le_of_suc-le-suc, append-nil, append_assoc}
 use Rattle.std.proofs.lemmas.Bool.{true≢false, false≢true, cases_order}
 use Rattle.std.specs.Prelude.{Ok, Err}
 use Rattle.mr_model.specs.Texts.{Text}

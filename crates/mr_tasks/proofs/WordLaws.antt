@@ -1,5 +1,6 @@
 -- Words are cut off a text exactly where they stand in it.
-use Rattle.std.proofs.Common.{◌≡◌, refl, sym, ap, ◌∙◌, ℕ, ◌^◌, ◌<◌, Bool, true, false, not, ◌&&◌, ◌||◌, [], ◌∷◌, ◌++◌, ◌⊎◌, inl, inr, arith, eqb-true, ne_eqb, length, get_or, ◌≢◌, zero, suc, not-suc-le-zero, suc-ne-zero, Some, None}
+use Rattle.std.proofs.Common.{◌≡◌, refl, sym, ap, ◌∙◌, ℕ, ◌^◌, ◌<◌, Bool, true, false, not, ◌&&◌, ◌||◌, [], ◌∷◌, ◌++◌, ◌⊎◌, inl, inr}
+use Rattle.std.proofs.Common.{arith, eqb-true, ne_eqb, length, get_or, ◌≢◌, zero, suc, not-suc-le-zero, suc-ne-zero, Some, None}
 use Rattle.std.proofs.lemmas.Bool.{and_parts, false≢true, not-true, cond-true, cond-false, cases_Bool, and_from, and_right, or_from, not_from_false}
 use Rattle.std.proofs.lemmas.Fmt.{decimal_nonempty}
 use Rattle.std.proofs.lemmas.Slice.Eq.{bytes_eq-Decides}
@@ -51,7 +52,8 @@ cut_of w rest h =
     ∙ ap (λ b. only_if b (w, after_word t)) (has_space w rest)
     ∙ ap (λ (u : Text). Some (w, u)) after
 
-joined_cons : (c : ℕ) (cs : Text) → (list_any is_space cs ≡ true → cs ≡ first_word cs ++ 32 ∷ after_word cs) → list_any is_space (c ∷ cs) ≡ true → ((is_space c ≡ true) ⊎ (is_space c ≡ false)) → c ∷ cs ≡ first_word (c ∷ cs) ++ 32 ∷ after_word (c ∷ cs)
+joined_cons : (c : ℕ) (cs : Text) → (list_any is_space cs ≡ true → cs ≡ first_word cs ++ 32 ∷ after_word cs) → list_any is_space (c ∷ cs) ≡ true
+    → ((is_space c ≡ true) ⊎ (is_space c ≡ false)) → c ∷ cs ≡ first_word (c ∷ cs) ++ 32 ∷ after_word (c ∷ cs)
 joined_cons c cs ih h (inl e) =
     ap (λ d. d ∷ cs) (eqb-true c 32 e)
     ∙ sym (ap (λ (u : Text). u ++ 32 ∷ after_word (c ∷ cs)) (cond-true (is_space c) [] (c ∷ first_word cs) e)

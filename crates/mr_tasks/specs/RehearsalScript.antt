@@ -20,8 +20,8 @@ is_passed_over [] = true
 is_passed_over (c ∷ cs) = c == 35
 
 -- bytes from 0x20 to 0x7E alone
-abbrev pub is_plain : Text → Bool
-is_plain t = list_all (λ c. within 32 126 c) t
+abbrev pub is_printable : Text → Bool
+is_printable t = list_all (λ c. within 32 126 c) t
 
 -- one byte at least, and no space
 abbrev pub is_word : Text → Bool
@@ -93,7 +93,7 @@ has_line (Deliver batch to bytes) = within 0 999_999_999 batch && (is_server to 
 pub record IsScriptLine (line : Text) (step : Step) : Type 0 where
   pub spelled : line ≡ step_line step
   pub of_table : has_line step ≡ true
-  pub plain : is_plain line ≡ true
+  pub plain : is_printable line ≡ true
 
 -- ---- a whole script
 

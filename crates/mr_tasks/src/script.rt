@@ -3,7 +3,7 @@
 ghost use Rattle.std.specs.Prelude.{◌≡◌, MatchOption, MatchResult, IfOk, Ok, map};
 ghost use Rattle.mr_model.specs.World as model;
 ghost use Rattle.mr_service.specs.Stepping.{step_of};
-ghost use Rattle.mr_tasks.specs.RehearsalScript.{is_passed_over, is_plain, IsScriptLine, ReadsAsScript, ReadsOneWay};
+ghost use Rattle.mr_tasks.specs.RehearsalScript.{is_passed_over, is_printable, IsScriptLine, ReadsAsScript, ReadsOneWay};
 ghost use Rattle.mr_tasks.specs.ScriptRead.{IsLineAs, IsFaultOf};
 
 use crate::lines::read_step;
@@ -91,7 +91,7 @@ fn is_passed_over(line: &[u8]) -> bool
 
 /// Whether all bytes are from 0x20 to 0x7E.
 fn is_plain(line: &[u8]) -> bool
-    ensures { result ≡ is_plain line.now }
+    ensures { result ≡ is_printable line.now }
 {
     line.iter().all(|byte| *byte >= b' ' && *byte <= b'~')
 }

@@ -42,7 +42,8 @@ begun old new o t tree key none same is =
     ap (λ v. left_of v 0) is ∙ placed old 0 _ ∙ ap (λ k. from_key o k (old.trees t)) none ∙ from_no_key o (old.trees t) ∙ ap old.trees same
 
 -- one row more is picked, or not
-pub picked_more : {R : Type 0} (g : Row → R) (p : Row → Bool) (out more : List R) (r : Row) (left rest : List Row) (all : List R) → more ≡ out ++ map g (filter p (r ∷ [])) → left ≡ r ∷ rest → out ++ map g (filter p left) ≡ all → more ++ map g (filter p rest) ≡ all
+pub picked_more : {R : Type 0} (g : Row → R) (p : Row → Bool) (out more : List R) (r : Row) (left rest : List Row) (all : List R)
+    → more ≡ out ++ map g (filter p (r ∷ [])) → left ≡ r ∷ rest → out ++ map g (filter p left) ≡ all → more ++ map g (filter p rest) ≡ all
 picked_more {R} g p out more r left rest all taken step far =
     ap (λ xs. xs ++ map g (filter p rest)) taken ∙ append_assoc out _ _ ∙ ap (λ xs. out ++ xs) (go (p r)) ∙ ap (λ rows. out ++ map g (filter p rows)) (sym step) ∙ far
   where
@@ -51,7 +52,8 @@ picked_more {R} g p out more r left rest all taken step far =
     go false = refl
 
 -- a row is refused, and so its table has one that isn't its own
-pub cause_of_row : {T : Type 0} (Clean fault broken of_rows : Type 0) (old : View) (r : Result T Trouble) (e : Trouble) → r ≡ Err e → IsOfRow broken e → (Clean → broken → of_rows) → IfErr r (λ e. Clean → IsCause old fault of_rows e)
+pub cause_of_row : {T : Type 0} (Clean fault broken of_rows : Type 0) (old : View) (r : Result T Trouble) (e : Trouble)
+    → r ≡ Err e → IsOfRow broken e → (Clean → broken → of_rows) → IfErr r (λ e. Clean → IsCause old fault of_rows e)
 cause_of_row {T} Clean fault broken of_rows old r e is told turn = subst (λ (r : Result T Trouble). IfErr r (λ e. Clean → IsCause old fault of_rows e)) (sym is) (go e told)
   where
     go : (e : Trouble) → IsOfRow broken e → Clean → IsCause old fault of_rows e

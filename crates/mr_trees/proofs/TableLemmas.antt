@@ -240,15 +240,18 @@ pub rooms_shown : (trees : Trees) (out : List Text) → out ≡ map room_form.ro
 unfolding tables_shown
 rooms_shown trees out is = subst (IsPermutation _) (sym (is ∙ ap (map room_form.row_in) (all_picked (trees 2)))) (IsPermutation-sym _ _ (sorted_same room_form (trees 2)))
 
-pub errors_shown : (room : Text) (trees : Trees) (out : List ErrorRow) → out ≡ filter (λ row. bytes_eq row.room room) (map error_form.row_in (trees 12)) → IsPermutation (picked_errors room (tables_shown trees)) out
+pub errors_shown : (room : Text) (trees : Trees) (out : List ErrorRow)
+    → out ≡ filter (λ row. bytes_eq row.room room) (map error_form.row_in (trees 12)) → IsPermutation (picked_errors room (tables_shown trees)) out
 unfolding tables_shown
 errors_shown room trees out is = sorted_picked error_form (λ row. bytes_eq row.room room) (trees 12) out is
 
-pub cancelled_rows_shown : (room : Text) (trees : Trees) (out : List CancelledRow) → out ≡ filter (λ row. bytes_eq row.room room) (map cancelled_form.row_in (trees 16)) → IsPermutation (picked_cancelled room (tables_shown trees)) out
+pub cancelled_rows_shown : (room : Text) (trees : Trees) (out : List CancelledRow)
+    → out ≡ filter (λ row. bytes_eq row.room room) (map cancelled_form.row_in (trees 16)) → IsPermutation (picked_cancelled room (tables_shown trees)) out
 unfolding tables_shown
 cancelled_rows_shown room trees out is = sorted_picked cancelled_form (λ row. bytes_eq row.room room) (trees 16) out is
 
-pub cancels_shown : (room : Text) (trees : Trees) (out : List CancelRow) → out ≡ filter (λ row. bytes_eq row.room room) (map cancel_form.row_in (trees 18)) → IsPermutation (picked_cancels room (tables_shown trees)) out
+pub cancels_shown : (room : Text) (trees : Trees) (out : List CancelRow)
+    → out ≡ filter (λ row. bytes_eq row.room room) (map cancel_form.row_in (trees 18)) → IsPermutation (picked_cancels room (tables_shown trees)) out
 unfolding tables_shown
 cancels_shown room trees out is = sorted_picked cancel_form (λ row. bytes_eq row.room room) (trees 18) out is
 
@@ -265,7 +268,8 @@ asked_both day room (r ∷ rows) = go (bytes_eq r.room room) (asked_both day roo
     go true ih = ap (λ more. cond (is_day_asked day r.day) (r ∷ more) more) ih
     go false ih = ih
 
-pub calendar_is : (room : Text) (day : Option Date) (trees : Trees) (shown out : List BookingRow) → shown ≡ filter (λ row. bytes_eq row.room room) (map booking_form.row_in (trees 10)) → IsPermutation (filter (λ r. is_day_asked day r.day) shown) out
+pub calendar_is : (room : Text) (day : Option Date) (trees : Trees) (shown out : List BookingRow)
+    → shown ≡ filter (λ row. bytes_eq row.room room) (map booking_form.row_in (trees 10)) → IsPermutation (filter (λ r. is_day_asked day r.day) shown) out
     → IsSortedBy booking_before out → AreBookings room day (tables_shown trees) out
 unfolding tables_shown
 calendar_is room day trees shown out read same sorted = (

@@ -1,5 +1,6 @@
 -- A path that a search finds a row for fits the row's pattern.
-use Rattle.std.proofs.Common.{◌≡◌, ◌⊎◌, ◌∙◌, inl, inr, ℕ, zero, suc, List, [], ◌∷◌, ◌++◌, Bool, true, false, cond, length, take, drop, Option, Some, None, refl, sym, ap, subst, arith, ◌==◌, ◌-◌, ◌<◌, ◌&&◌, ◌||◌, take-append-drop, ltb}
+use Rattle.std.proofs.Common.{◌≡◌, ◌⊎◌, ◌∙◌, inl, inr, ℕ, zero, suc, List, [], ◌∷◌, ◌++◌, Bool, true, false, cond, length, take, drop}
+use Rattle.std.proofs.Common.{Option, Some, None, refl, sym, ap, subst, arith, ◌==◌, ◌-◌, ◌<◌, ◌&&◌, ◌||◌, take-append-drop, ltb}
 use Rattle.std.proofs.lemmas.Bool.{ltb-true, eqb-true, and_parts}
 use Rattle.matchit.specs.Rows.{RowsOf, param_token, catch_all_token}
 use Rattle.matchit.specs.Seek.{seek, own, step, or_else, param_step, with_suffix, longest_suffix, longest_from, better, cuts, segment, has_slash, same_text, slash}

@@ -1,5 +1,6 @@
 -- The words that a target has at the parameters of its route are texts.
-use Rattle.std.proofs.Common.{◌≡◌, ◌⊎◌, ◌∙◌, inl, inr, ℕ, zero, suc, List, [], ◌∷◌, ◌++◌, Bool, true, false, cond, length, take, drop, get_or, Some, refl, sym, ap, subst, arith, ◌==◌, ◌-◌, ◌+◌, ◌<◌, ◌≤◌, ◌&&◌, lit<, ltb, leb, length-drop, drop-drop, drop_at, get_or-drop, drop_of_length-le, codes, IsUtf8, IsCharBoundary}
+use Rattle.std.proofs.Common.{◌≡◌, ◌⊎◌, ◌∙◌, inl, inr, ℕ, zero, suc, List, [], ◌∷◌, ◌++◌, Bool, true, false, cond, length, take, drop, get_or, Some, refl, sym, ap, subst, arith}
+use Rattle.std.proofs.Common.{◌==◌, ◌-◌, ◌+◌, ◌<◌, ◌≤◌, ◌&&◌, lit<, ltb, leb, length-drop, drop-drop, drop_at, get_or-drop, drop_of_length-le, codes, IsUtf8, IsCharBoundary}
 use Rattle.std.specs.Prelude.{slice_index}
 use Rattle.std.proofs.lemmas.Bool.{leb-true, and_parts, lt-ltb, eq-eqb, and_from, and_left, and_right, le-ltb}
 use Rattle.std.proofs.lemmas.Str.{IsUtf8-from_ascii, IsUtf8-nil, IsUtf8-between, IsCharBoundary-start, IsCharBoundary-end, IsCharBoundary-before_ascii, IsCharBoundary-after_ascii}
@@ -199,8 +200,25 @@ unfolding route_table matchit_on_literals
 table_taken target =
     let room = IsUtf8-from_ascii (codes "room") room_ascii in
     let day = IsUtf8-from_ascii (codes "day") day_ascii in
-    let id = IsUtf8-from_ascii (codes "id") id_ascii in
-    ((refl, λ f. record { fits = f; names = tt; small = lit< tt }), ((refl, λ f. record { fits = f; names = tt; small = lit< tt }), ((refl, λ f. record { fits = f; names = tt; small = lit< tt }), ((refl, λ f. record { fits = f; names = tt; small = lit< tt }), ((refl, λ f. record { fits = f; names = (room, (day, tt)); small = lit< tt }), ((refl, λ f. record { fits = f; names = (room, tt); small = lit< tt }), ((refl, λ f. record { fits = f; names = (room, (id, tt)); small = lit< tt }), ((refl, λ f. record { fits = f; names = tt; small = lit< tt }), tt))))))))
+    let id = IsUtf8-from_ascii (codes "id") id_ascii in (
+      (refl, λ f. record { fits = f; names = tt; small = lit< tt }),
+      (
+        (refl, λ f. record { fits = f; names = tt; small = lit< tt }),
+        (
+          (refl, λ f. record { fits = f; names = tt; small = lit< tt }),
+          (
+            (refl, λ f. record { fits = f; names = tt; small = lit< tt }),
+            (
+              (refl, λ f. record { fits = f; names = (room, (day, tt)); small = lit< tt }),
+              (
+                (refl, λ f. record { fits = f; names = (room, tt); small = lit< tt }),
+                ((refl, λ f. record { fits = f; names = (room, (id, tt)); small = lit< tt }), ((refl, λ f. record { fits = f; names = tt; small = lit< tt }), tt)),
+              ),
+            ),
+          ),
+        ),
+      ),
+    )
 
 -- the words of a target at the parameters of its route
 pub words_are_text : (target : List ℕ) (r : RouteOf Resource) → IsUtf8 target → first route_table target ≡ Some r → AllText (route_parameters target r)

@@ -9,7 +9,8 @@ use Rattle.mr_model.specs.Replica.{Replica}
 use Rattle.mr_model.specs.Replies.{Reply}
 use Rattle.mr_model.specs.Tables.{Tables, Stands}
 use Rattle.mr_model.specs.Step as model
-use Rattle.mr_model.specs.Http.{Head, Route, Submissions, Cancellations, Day, Request, ErrorLog, PositionOf, Pull, Push, Response, Asked, Faulty, Runs, ServesAsked, is_post, method_name, command_of, body_length, greatest_body, bad_request, not_allowed, too_large, ask_command, ask_length, ask_route, response_of, response_text, asked as asked_of}
+use Rattle.mr_model.specs.Http.{Head, Route, Submissions, Cancellations, Day, Request, ErrorLog, PositionOf, Pull, Push, Response, Asked, Faulty, Runs, ServesAsked, is_post, method_name}
+use Rattle.mr_model.specs.Http.{command_of, body_length, greatest_body, bad_request, not_allowed, too_large, ask_command, ask_length, ask_route, response_of, response_text, asked as asked_of}
 use Rattle.mr_service.specs.declared.commands.Command.{Command}
 use Rattle.mr_service.specs.Asked.{command_seen as command_view}
 use Rattle.mr_http.specs.Faults.{web_fault}

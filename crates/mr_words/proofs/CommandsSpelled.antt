@@ -14,7 +14,8 @@ use Rattle.mr_model.proofs.BatchesReadBack.{only_if_some}
 use Rattle.mr_base.specs.Readings.{number_from_to}
 use Rattle.mr_wire.proofs.FieldLaws.{bind_some}
 use Rattle.mr_words.specs.CommandNames.{cancel_name, commit_name, truncate_name, position_name, sheet_name, calendar_name, outcome_name, errors_name}
-use Rattle.mr_words.specs.CommandTable.{commit_number_in, part_in, cancel_asked, commit_asked, truncation_asked, position_asked, sheet_asked, calendar_asked, outcome_asked, errors_asked, shared_commands}
+use Rattle.mr_words.specs.CommandTable.{commit_number_in, part_in, cancel_asked, commit_asked, truncation_asked, position_asked}
+use Rattle.mr_words.specs.CommandTable.{sheet_asked, calendar_asked, outcome_asked, errors_asked, shared_commands}
 use Rattle.mr_words.specs.CommandSpelling.{spelled, may_be_spelled}
 use Rattle.mr_words.proofs.TableRows.{EachRow, if_some}
 

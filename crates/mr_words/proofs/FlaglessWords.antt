@@ -1,6 +1,7 @@
 -- What clap makes of a command line whose words are no flags: the row that the first word names, with the others.
 use Rattle.std.proofs.lemmas.Option.{none-some, same_Some}
-use Rattle.std.proofs.Common.{cond, ◌≡◌, refl, sym, ap, ◌∙◌, ℕ, ◌+◌, ◌<◌, ◌≤◌, Bool, true, false, not, ◌||◌, List, [], ◌∷◌, ◌++◌, length, map, take, get_or, Option, Some, None, option_map, codes, arith, append_assoc, append-nil, fold}
+use Rattle.std.proofs.Common.{cond, ◌≡◌, refl, sym, ap, ◌∙◌, ℕ, ◌+◌, ◌<◌, ◌≤◌, Bool, true, false, not, ◌||◌, List, [], ◌∷◌, ◌++◌, length}
+use Rattle.std.proofs.Common.{map, take, get_or, Option, Some, None, option_map, codes, arith, append_assoc, append-nil, fold}
 use Rattle.std.specs.Prelude.{find, unwrap_or}
 use Rattle.std.specs.Str.{bytes_eq}
 use Rattle.std.proofs.lemmas.List.{take_more, map_push}
@@ -12,7 +13,8 @@ use Rattle.mr_words.specs.CommandTable.{has_hyphen, has_no_flag}
 use Rattle.mr_words.specs.Grammar.{words_rule, row_shape, bare_program, program, row_names}
 use Rattle.clap.specs.Lexer.{usize_max, long_of, short_of}
 use Rattle.clap.specs.Walk.{Names, stop_after, Row, Rule, positional, Walk, all_of, finished, nothing_held, settled, walk, walk_from, walked, answers_to}
-use Rattle.clap.specs.Simple.{is_simple, App, Shape, rows_at, built, built_leaf, entered, filled, inherited, label_of, marked_built, names_of, subcommand_of, with_index, with_leaf_noted, with_subcommand}
+use Rattle.clap.specs.Simple.{is_simple, App, Shape, rows_at, built, built_leaf, entered, filled, inherited, label_of}
+use Rattle.clap.specs.Simple.{marked_built, names_of, subcommand_of, with_index, with_leaf_noted, with_subcommand}
 use Rattle.clap.specs.Kinds.{or_else, range_kinds}
 use Rattle.clap.specs.Faults.{built_fault, walk_fault, turn_fault, level_fault, settle_fault, defaults_fault, fault_of, is_simple_and_free, values_fault}
 use Rattle.clap.specs.declared.error.ErrorKind.TheVariants as kind

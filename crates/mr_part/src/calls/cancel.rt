@@ -3,9 +3,9 @@ ghost use Rattle.std.specs.List.{list_any};
 ghost use Rattle.mr_model.specs.Replica.{Replica, IsReplica};
 ghost use Rattle.mr_model.specs.Scopes.{OfTarget};
 ghost use Rattle.mr_part.specs.Answering.{NeverStore, put_cancel_outcome};
-ghost use Rattle.mr_part.specs.NextId.{next_id};
+ghost use Rattle.mr_part.specs.NextId.{next_own_id};
 ghost use Rattle.mr_part.specs.Parts.{IsPartOf, TakesPart};
-ghost use Rattle.mr_part.specs.Placing.{has_booking as has_booking_on};
+ghost use Rattle.mr_part.specs.Placing.{has_booking_on};
 ghost use Rattle.mr_part.specs.Steps.{cancel_request, outcome_at_room};
 ghost use Rattle.mr_tables.specs.Summary.{tally_at};
 
@@ -23,7 +23,7 @@ impl Part {
         ensures step { TakesPart (OfTarget target) (cancel_request room target) (λ a done. outcome_at_room room a done.0) (λ done. done.1) self.now result }
         ensures told { (a : Replica) → IsReplica a → IsPartOf self.now (OfTarget target) a
             → IfOk result (λ done. outcome_at_room room (cancel_request room target a).replica done.0 ≡ put_cancel_outcome done.1.cancels) }
-        ensures id { IfOk result (λ done. next_id self.now.summary ≡ Some done.0) }
+        ensures id { IfOk result (λ done. next_own_id self.now.summary ≡ Some done.0) }
         // A refusal that is due is returned without memory.
         ensures due_room { list_any (bytes_eq room) self.now.rooms ≡ false → result ≡ Err Refusal.UnknownRoom }
         ensures due_target { list_any (bytes_eq room) self.now.rooms ≡ true → has_booking_on self.now.board room target ≡ false

@@ -1,5 +1,5 @@
 ghost use Rattle.std.specs.Prelude.{◌≡◌};
-ghost use Rattle.mr_part.specs.NextId.{id_given, next_id};
+ghost use Rattle.mr_part.specs.NextId.{id_given, next_own_id};
 ghost use Rattle.mr_part.specs.ScopeOf.{scope_of};
 
 use crate::{Part, Scope};
@@ -23,7 +23,7 @@ impl Part {
     }
 
     fn next_id(&self) -> Option<WriteId>
-        ensures { result ≡ next_id self.now.summary }
+        ensures { result ≡ next_own_id self.now.summary }
     {
         match self.summary.next_stamp() {
             Ok(stamp) => Some(stamp.id()),

@@ -2,7 +2,7 @@ ghost use Rattle.std.specs.Prelude.{◌≡◌, ◌+◌, ◌<◌, ◌≤◌, ◌^
 ghost use Rattle.std.specs.Option.{option_copied};
 ghost use Rattle.mr_tables.specs.Cells.{place_row_of};
 ghost use Rattle.mr_tables.specs.Written.{meta_of, changed_tallies as rows_changed, written};
-ghost use Rattle.mr_part.specs.Placing.{with_places_put, board_place, TraceEnds, TargetEnds, canceller_on, row_canceller, cancellers_on, is_booking_trace, has_booking, taken_row, taken_rows, booking_at};
+ghost use Rattle.mr_part.specs.Placing.{with_places_put, board_place, TraceEnds, TargetEnds, canceller_on, row_canceller, cancellers_on, is_booking_trace, has_booking_on, row_taken_back, taken_rows, booking_at};
 ghost use Rattle.mr_replay.specs.Rows.{target_if_done as taken_back_by};
 
 use crate::calls::board_rows::BoardRows;
@@ -131,7 +131,7 @@ fn push_taken(
     by: WriteId,
 ) -> Result<(), Refusal>
     ensures rows { OnOk result (TraceEnds row.now.trace
-        → map place_row_of rows.new.items ≡ map place_row_of rows.old.items ++ taken_row by (board_place summary.now.tallies id row.now)) }
+        → map place_row_of rows.new.items ≡ map place_row_of rows.old.items ++ row_taken_back by (board_place summary.now.tallies id row.now)) }
     ensures only { IfErr result (λ e. e ≡ Refusal.OutOfMemory) }
 {
     match &row.trace {
@@ -213,7 +213,7 @@ pub(crate) fn canceller_on(kept: &Trace) -> Option<WriteId>
 
 /// Whether the board has a booking of this room with this id.
 pub fn has_booking(board: &SeenBoard, room: &RoomName, id: WriteId) -> bool
-    ensures { result ≡ has_booking board.now room.now id }
+    ensures { result ≡ has_booking_on board.now room.now id }
 {
     match board.row(id) {
         Some(row) => row.room == *room && is_booking(&row.trace),

@@ -3,7 +3,7 @@ ghost use Rattle.std.specs.List.{list_any};
 ghost use Rattle.mr_model.specs.Replica.{Replica, IsReplica};
 ghost use Rattle.mr_model.specs.Scopes.{InRoom};
 ghost use Rattle.mr_part.specs.Answering.{NeverStore, put_outcome};
-ghost use Rattle.mr_part.specs.NextId.{next_id};
+ghost use Rattle.mr_part.specs.NextId.{next_own_id};
 ghost use Rattle.mr_part.specs.Parts.{IsPartOf, TakesPart};
 ghost use Rattle.mr_part.specs.Placing.{part_puts, CanPut};
 ghost use Rattle.mr_part.specs.Steps.{submit_request, outcome_in};
@@ -30,7 +30,7 @@ impl Part {
         ensures step { TakesPart (InRoom request.room) (submit_request request) (λ a done. outcome_in request a done.0) (λ done. done.1) self.now result }
         ensures told { (a : Replica) → IsReplica a → IsPartOf self.now (InRoom request.room) a
             → IfOk result (λ done. outcome_in request (submit_request request a).replica done.0 ≡ put_outcome done.1.booking done.1.errorlog) }
-        ensures id { IfOk result (λ done. next_id self.now.summary ≡ Some done.0) }
+        ensures id { IfOk result (λ done. next_own_id self.now.summary ≡ Some done.0) }
         // A refusal that is due is returned without memory.
         ensures due_room { list_any (bytes_eq request.room) self.now.rooms ≡ false → result ≡ Err Refusal.UnknownRoom }
         ensures due_clock { list_any (bytes_eq request.room) self.now.rooms ≡ true → 999_999_999_999 ≤ self.now.summary.clock → result ≡ Err Refusal.ClockExhausted }

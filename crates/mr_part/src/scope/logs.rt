@@ -3,7 +3,7 @@ ghost use Rattle.mr_model.specs.Writes.{Write as WriteOfRoom};
 ghost use Rattle.mr_model.specs.Replica.{Replica, IsReplica};
 ghost use Rattle.mr_part.specs.KeptRows.{kept_row};
 ghost use Rattle.mr_part.specs.declared.kept_rows.KeptRow.{KeptRow as KeptRowOfWrite};
-ghost use Rattle.mr_part.specs.RowTests.{log_row_of, AreWritesWithin, ArePicked, passes};
+ghost use Rattle.mr_part.specs.RowTests.{log_row_of, AreWritesWithin, ArePicked, passes_log_test};
 
 use crate::kept_rows::{KeptRow, kept_row, sort_rows};
 use crate::scope::batch_scope::BatchScope;
@@ -24,7 +24,7 @@ pub(crate) enum LogTest<'a> {
 
 impl LogTest<'_> {
     fn passes(&self, row: &LogRow) -> bool
-        ensures { result ≡ passes self.now row.now }
+        ensures { result ≡ passes_log_test self.now row.now }
     {
         match *self {
             LogTest::UpTo(number) => row.seq >= 1 && row.seq <= number,
@@ -40,9 +40,9 @@ pub(crate) fn writes_where(
     rows: &[LogRow],
     test: &LogTest<'_>,
 ) -> Result<Vec<KeptRow>, Refusal>
-    ensures writes { (a : Replica) (ws : List WriteOfRoom) → IsReplica a → ArePicked a (passes test.now) rows.now ws
+    ensures writes { (a : Replica) (ws : List WriteOfRoom) → IsReplica a → ArePicked a (passes_log_test test.now) rows.now ws
         → IfOk result (λ writes. writes.items ≡ map (kept_row a) ws) }
-    ensures only { (a : Replica) (ws : List WriteOfRoom) → IsReplica a → ArePicked a (passes test.now) rows.now ws
+    ensures only { (a : Replica) (ws : List WriteOfRoom) → IsReplica a → ArePicked a (passes_log_test test.now) rows.now ws
         → IfErr result (λ e. e ≡ Refusal.OutOfMemory) }
 {
     let mut writes = writes_in(alloc, rows, test)?;
@@ -52,9 +52,9 @@ pub(crate) fn writes_where(
 
 /// The same in the order of the rows.
 fn writes_in(alloc: Global, rows: &[LogRow], test: &LogTest<'_>) -> Result<Vec<KeptRow>, Refusal>
-    ensures writes { (xs : List KeptRowOfWrite) → AreWritesWithin xs → filter (passes test.now) rows.now ≡ map log_row_of xs
+    ensures writes { (xs : List KeptRowOfWrite) → AreWritesWithin xs → filter (passes_log_test test.now) rows.now ≡ map log_row_of xs
         → IfOk result (λ writes. writes.items ≡ xs) }
-    ensures only { (xs : List KeptRowOfWrite) → AreWritesWithin xs → filter (passes test.now) rows.now ≡ map log_row_of xs
+    ensures only { (xs : List KeptRowOfWrite) → AreWritesWithin xs → filter (passes_log_test test.now) rows.now ≡ map log_row_of xs
         → IfErr result (λ e. e ≡ Refusal.OutOfMemory) }
 {
     let mut writes = Vec::new(alloc);

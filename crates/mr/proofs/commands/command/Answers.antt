@@ -4,7 +4,8 @@ use Rattle.mr.proofs.commands.command.Goals as goal
 pub returns-in-Err-clause-within : goal.returns-in-Err-clause-within
 returns-in-Err-clause-within g c =
     bad_words_status c.say_word_fault.result
-    (bad_words_end c.in-Err.fault (g.W.Write.contents c.args.out.now) (g.W.Write.contents c.say_word_fault.new.out) c.say_word_fault.result c.say_word_fault.ensures.bad c.say_word_fault.ensures.memory)
+    (bad_words_end c.in-Err.fault (g.W.Write.contents c.args.out.now)
+    (g.W.Write.contents c.say_word_fault.new.out) c.say_word_fault.result c.say_word_fault.ensures.bad c.say_word_fault.ensures.memory)
 
 pub returns-in-Err-clause-asked : goal.returns-in-Err-clause-asked
 returns-in-Err-clause-asked g c = λ flagless asked is.

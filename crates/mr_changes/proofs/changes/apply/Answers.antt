@@ -67,7 +67,8 @@ returns-in-Ok-clause-crash g c clean db left =
     let was : IsClean old = c.make.ensures.step.clean between in
     let opened = open_if_sound old (g.met.S.Store.broken_if_shut c.args.store.now) (sym (c.is_broken.ensures was) ∙ c.if-is_broken.false) in
     let made = c.in-Ok.ensures.made between in
-    elim (c.commit.ensures.crash db left) [ inl now ↦ inr (opened, subst AreHeld (sym now.1) made.fit.held, ap tables_in now.1 ∙ made.tables_are) | inr before ↦ inl (c.make.ensures.step.outcomes db before) ]
+    elim (c.commit.ensures.crash db
+    left) [ inl now ↦ inr (opened, subst AreHeld (sym now.1) made.fit.held, ap tables_in now.1 ∙ made.tables_are) | inr before ↦ inl (c.make.ensures.step.outcomes db before) ]
 
 -- ---- rolled back
 

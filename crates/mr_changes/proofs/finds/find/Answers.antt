@@ -22,4 +22,5 @@ returns-in-Some-clause-found g c clean alone =
     let fit = c.requires.fit was in
     let told = rw (c.if-not-branch.false, c.table.ensures) at (c.in_ok-find_entry.ensures.ok clean) in
     let fits : SFits w64 c.in-Some.id = search rules in
-    rw (to_z-of_z w64 c.in-Some.id fits) (found g.R.PlacedRow.key_at (old.trees tree) (old.trees (tree + 1)) c.args.key.now (g.met.R.OurRow.is_ours.was old.trees fit.held).shelf.rise (g.met.R.PlacedRow.indexed old.trees fit.indexed) alone c.in-Some.id c.find_entry.new.entry told.0.0 told.0.1 told.1 c.in-Some.ensures)
+    rw (to_z-of_z w64 c.in-Some.id fits) (found g.R.PlacedRow.key_at (old.trees tree) (old.trees (tree + 1)) c.args.key.now (g.met.R.OurRow.is_ours.was old.trees fit.held).shelf.rise
+    (g.met.R.PlacedRow.indexed old.trees fit.indexed) alone c.in-Some.id c.find_entry.new.entry told.0.0 told.0.1 told.1 c.in-Some.ensures)

@@ -13,4 +13,5 @@ returns-in-Some-clause-above g c clean up r here =
     let last = rw c.if-not-branch.false at (c.in_ok-last.ensures.ok clean) in
     let id = c.in-Some.ensures in
     let fits : SFits w64 c.in-Some.id = search rules in
-    rw (to_z-of_z w64 c.in-Some.id fits) (behind_last last.0 c.last.new.row id.0 c.in-Some.id (subst IsTable last.1 up) id.1 (value_cmp-Int _ _ ∙ Less-from_lt _ _ id.2) r (subst (λ (rows : List Row). Has rows r) last.1 here))
+    rw (to_z-of_z w64 c.in-Some.id fits)
+    (behind_last last.0 c.last.new.row id.0 c.in-Some.id (subst IsTable last.1 up) id.1 (value_cmp-Int _ _ ∙ Less-from_lt _ _ id.2) r (subst (λ (rows : List Row). Has rows r) last.1 here))

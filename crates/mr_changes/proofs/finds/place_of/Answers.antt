@@ -16,7 +16,8 @@ returns-in-Some-clause-place g c clean =
     let told = rw (key, c.in-Some.is) at (c.in_ok-id.ensures.found clean) in
     let alone = one_has f g.R.PlacedRow.key_of g.R.PlacedRow.key_at g.met.R.PlacedRow.keyed g.met.R.PlacedRow.alike g.met.R.PlacedRow.same rows held c.args.row.now in
     let fits : SFits w64 c.in-Some.id = search rules in
-    rw (to_z-of_z w64 c.in-Some.id fits) (own_place f g.R.PlacedRow.key_of g.R.PlacedRow.key_at g.met.R.PlacedRow.keyed g.met.R.PlacedRow.alike g.met.R.PlacedRow.same rows held c.args.row.now c.in-Some.id (told alone))
+    rw (to_z-of_z w64 c.in-Some.id fits)
+    (own_place f g.R.PlacedRow.key_of g.R.PlacedRow.key_at g.met.R.PlacedRow.keyed g.met.R.PlacedRow.alike g.met.R.PlacedRow.same rows held c.args.row.now c.in-Some.id (told alone))
 
 pub returns-clause-place : goal.returns-clause-place
 returns-clause-place g c =
@@ -34,4 +35,5 @@ returns-clause-place g c =
     let told = rw (key, c.in-None.is) at (c.in_ok-id.ensures.found between) in
     let alone = one_has f g.R.PlacedRow.key_of g.R.PlacedRow.key_at g.met.R.PlacedRow.keyed g.met.R.PlacedRow.alike g.met.R.PlacedRow.same rows held c.args.row.now in
     let over = rw (c.table.ensures, same) at (above clean) in
-    fresh rows id (over held.shelf.rise) (none_of_own f g.R.PlacedRow.key_of g.R.PlacedRow.key_at g.met.R.PlacedRow.keyed g.met.R.PlacedRow.alike g.met.R.PlacedRow.same rows held c.args.row.now (told alone))) c.next_id.ensures.above
+    fresh rows id (over held.shelf.rise)
+    (none_of_own f g.R.PlacedRow.key_of g.R.PlacedRow.key_at g.met.R.PlacedRow.keyed g.met.R.PlacedRow.alike g.met.R.PlacedRow.same rows held c.args.row.now (told alone))) c.next_id.ensures.above

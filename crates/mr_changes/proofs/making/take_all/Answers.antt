@@ -17,8 +17,10 @@ pub gone-preserved : goal.gone-preserved
 gone-preserved g c = (
   step_then g.S.Store c.args.store.now c.gone.store c.take_row.new.store c.gone.invariant.0 c.take_row.ensures.step,
   λ clean.
-      goes_on_at (g.S.Store.view c.args.store.now) (g.S.Store.view c.gone.store) (g.S.Store.view c.take_row.new.store) (rows_taken g.R.IdRow.id_of g.R.OurRow.rows_of g.R.OurRow.with_rows) c.args.gone.now c.gone.id-index c.id-item.result _
-      (taken_more g.R.StoredRow.form g.R.OurRow.rows_of g.R.OurRow.with_rows g.met.R.OurRow.is_ours g.R.IdRow.id_of) c.gone-test.true c.id-item.is (c.gone.invariant.1 (c.take_row.ensures.step.clean clean)) (c.in_ok-take_row.ensures.taken clean),
+      goes_on_at (g.S.Store.view c.args.store.now) (g.S.Store.view c.gone.store) (g.S.Store.view c.take_row.new.store)
+      (rows_taken g.R.IdRow.id_of g.R.OurRow.rows_of g.R.OurRow.with_rows) c.args.gone.now c.gone.id-index c.id-item.result _
+      (taken_more g.R.StoredRow.form g.R.OurRow.rows_of g.R.OurRow.with_rows g.met.R.OurRow.is_ours g.R.IdRow.id_of) c.gone-test.true c.id-item.is
+      (c.gone.invariant.1 (c.take_row.ensures.step.clean clean)) (c.in_ok-take_row.ensures.taken clean),
 )
 
 pub returns-clause-made : goal.returns-clause-made

@@ -11,10 +11,12 @@ use Rattle.mr_changes.proofs.StepLemmas.{puts_meta, makes_after_reads, reads_fit
 use Rattle.mr_changes.proofs.meta.put_meta.Goals as goal
 
 pub returns-in_err-id-clause-step : goal.returns-in_err-id-clause-step
-returns-in_err-id-clause-step g c = read_step g.S.Store c.args.store.now c.place_of_meta.new.store c.place_of_meta.result c.place_of_meta.ensures.quiet c.place_of_meta.ensures.reads c.place_of_meta.ensures.err
+returns-in_err-id-clause-step g c =
+    read_step g.S.Store c.args.store.now c.place_of_meta.new.store c.place_of_meta.result c.place_of_meta.ensures.quiet c.place_of_meta.ensures.reads c.place_of_meta.ensures.err
 
 pub returns-in_err-row-clause-step : goal.returns-in_err-row-clause-step
-returns-in_err-row-clause-step g c = read_step g.S.Store c.args.store.now c.place_of_meta.new.store c.place_of_meta.result c.place_of_meta.ensures.quiet c.place_of_meta.ensures.reads c.place_of_meta.ensures.err
+returns-in_err-row-clause-step g c =
+    read_step g.S.Store c.args.store.now c.place_of_meta.new.store c.place_of_meta.result c.place_of_meta.ensures.quiet c.place_of_meta.ensures.reads c.place_of_meta.ensures.err
 
 pub returns-clause-put : goal.returns-clause-put
 returns-clause-put g c =

@@ -4,7 +4,7 @@ use Rattle.std.proofs.lemmas.Result.{on_ok_weaker}
 use Rattle.sqlite_trees.specs.View.{View, IsClean}
 use Rattle.mr_model.specs.Replica.{is_among}
 use Rattle.mr_rows.specs.TableSteps.{rows_taken}
-use Rattle.mr_changes.specs.Found.{id_cells}
+use Rattle.mr_changes.specs.Found.{id_key}
 use Rattle.mr_changes.specs.Steps.{Makes}
 use Rattle.mr_changes.proofs.FindLemmas.{one_id, gone_at, none_gone}
 use Rattle.mr_changes.proofs.StepLemmas.{takes_one, taken_same, makes_same, makes_after_reads, reads_fit, read_step, write_step, step_none, step_then}
@@ -47,7 +47,7 @@ returns-in-Some-clause-taken g c =
     let same : mid.trees ≡ old.trees = ap (λ (v : View). v.trees) reads in
     let fit = reads_fit old mid reads (c.requires.fit was) in
     let held = g.met.R.OurRow.is_ours.was mid.trees fit.held in
-    let key : c.put_id.new.key ≡ id_cells id = c.in_ok-put_id.ensures ∙ ap (λ k. k ++ id_cells id) c.new-key.ensures in
+    let key : c.put_id.new.key ≡ id_key id = c.in_ok-put_id.ensures ∙ ap (λ k. k ++ id_key id) c.new-key.ensures in
     let told = rw (key, c.in-Some.is, sym same) at (c.in_ok-rowid.ensures.found between) in
     let rows = mid.trees f.table.tree in
     let alone = one_id f g.R.PlacedRow.key_of g.R.PlacedRow.key_at g.met.R.PlacedRow.keyed g.met.R.PlacedRow.alike g.R.IdRow.id_of g.met.R.IdRow.by_id rows held id in
@@ -73,12 +73,14 @@ returns-clause-taken g c clean =
     let was : IsClean old = omega (arith, clean, c.find.ensures.quiet.clean) in
     let fit = c.requires.fit was in
     let held = g.met.R.OurRow.is_ours.was old.trees fit.held in
-    let key : c.put_id.new.key ≡ id_cells id = c.in_ok-put_id.ensures ∙ ap (λ k. k ++ id_cells id) c.new-key.ensures in
+    let key : c.put_id.new.key ≡ id_key id = c.in_ok-put_id.ensures ∙ ap (λ k. k ++ id_key id) c.new-key.ensures in
     let told = rw (key, c.in-None.is) at (c.in_ok-rowid.ensures.found clean) in
     let rows = old.trees f.table.tree in
     let alone = one_id f g.R.PlacedRow.key_of g.R.PlacedRow.key_at g.met.R.PlacedRow.keyed g.met.R.PlacedRow.alike g.R.IdRow.id_of g.met.R.IdRow.by_id rows held id in
-    let none = none_gone f g.R.PlacedRow.key_of g.R.PlacedRow.key_at g.met.R.PlacedRow.keyed g.met.R.PlacedRow.alike g.R.IdRow.id_of g.met.R.IdRow.by_id rows held id (told alone) g.met.R.StoredRow.order in
-    subst (Makes old mid) (sym (taken_same f g.R.OurRow.rows_of g.R.OurRow.with_rows g.met.R.OurRow.is_ours g.R.IdRow.id_of (id ∷ []) old.trees none)) (makes_same old mid (c.in_ok-rowid.ensures.reads clean) fit)
+    let none = none_gone f g.R.PlacedRow.key_of g.R.PlacedRow.key_at g.met.R.PlacedRow.keyed g.met.R.PlacedRow.alike g.R.IdRow.id_of g.met.R.IdRow.by_id rows held id
+    (told alone) g.met.R.StoredRow.order in
+    subst (Makes old mid) (sym (taken_same f g.R.OurRow.rows_of g.R.OurRow.with_rows g.met.R.OurRow.is_ours g.R.IdRow.id_of (id ∷ []) old.trees none))
+    (makes_same old mid (c.in_ok-rowid.ensures.reads clean) fit)
 
 pub returns-clause-step : goal.returns-clause-step
 returns-clause-step g c = read_step g.S.Store c.args.store.now c.find.new.store c.find.result c.find.ensures.quiet c.find.ensures.reads c.find.ensures.err

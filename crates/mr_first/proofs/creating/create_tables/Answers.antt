@@ -16,7 +16,9 @@ texts-preserved g c =
     let next = state g.S.Store c.execute.new.self.conn.now in (
       c.execute.ensures.same_reference ∙ c.texts.invariant.0,
       none_commits first now next c.texts.invariant.1 c.execute.ensures.survives,
-      λ clean. keeps_then first now next (c.texts.invariant.2 (clean_before now next c.execute.ensures.survives clean)) (keeps_any g.S.Store c.texts.tx.conn.now c.execute.new.self.conn.now _ [] c.execute.result (c.execute.ensures.runs clean) (λ outside. (c.execute.ensures.ended outside).1)),
+      λ clean. keeps_then first now next (c.texts.invariant.2 (clean_before now next c.execute.ensures.survives clean))
+          (keeps_any g.S.Store c.texts.tx.conn.now c.execute.new.self.conn.now _ [] c.execute.result (c.execute.ensures.runs clean) (λ outside. (c.execute.ensures.ended outside).1)),
       goes_on first now next (map (λ text. text.now) c.args.texts.now) (map (λ text. text.now) (drop (c.texts.text-index + 1) c.args.texts.now)) _ c.in_ok-execute.field-0
-          (subst (IsUnderWay first now (map (λ text. text.now) c.args.texts.now)) (ap (map (λ text. text.now)) (drop_more c.args.texts.now c.texts.text-index _ c.texts-test.true)) c.texts.invariant.3) c.execute.ensures.survives c.in_ok-execute.ensures.runs,
+          (subst (IsUnderWay first now (map (λ text. text.now) c.args.texts.now)) (ap (map (λ text. text.now)) (drop_more c.args.texts.now c.texts.text-index _ c.texts-test.true)) c.texts.invariant.3)
+          c.execute.ensures.survives c.in_ok-execute.ensures.runs,
     )

@@ -1,4 +1,4 @@
-use Rattle.std.proofs.Common.{◌≡◌, true, Result, Ok, Err, OnOk, ap, ◌∙◌, rules}
+use Rattle.std.proofs.Common.{◌≡◌, true, Ok, ap, ◌∙◌, rules}
 use Rattle.sqlite.specs.Held.{state}
 use Rattle.sqlite.proofs.StateLemmas.{survives_weaker}
 use Rattle.mr_model.specs.Tables.{Tables}
@@ -9,6 +9,7 @@ use Rattle.mr_first.specs.FirstDatabase.{first_in}
 use Rattle.mr_first.proofs.ReadLemmas.{reads_made}
 use Rattle.mr_first.proofs.MoveLemmas.{IsOf, moves, survives_moving}
 use Rattle.mr_first.proofs.moving.move_up.Goals as goal
+use Rattle.mr_rows.proofs.ColumnLemmas.{on_ok_any}
 
 pub returns-in_err-tables-clause-survives : goal.returns-in_err-tables-clause-survives
 returns-in_err-tables-clause-survives g c =
@@ -40,11 +41,6 @@ returns-clause-survives g c =
     (λ kept is. (same ∙ ap (λ (t : Tables). t.log) is.0, meta_is ∙ ap (λ (t : Tables). t.meta) is.0)) c.in_ok-tables.ensures.reads in
     survives_moving a b (state g.S.Store c.rewrite.new.conn) meta put c.rewrite.result read c.rewrite.ensures.rewritten c.rewrite.ensures.survives
 
--- what is so whatever is answered
-always : {X E : Type 0} {P : Type 0} (r : Result X E) → P → OnOk r P
-always (Ok x) p = p
-always (Err e) p = tt
-
 pub returns-clause-agree : goal.returns-clause-agree
 returns-clause-agree g c clean kept =
-    always c.rewrite.result (c.in_ok-tables.ensures.reads.2 (clean_before c.rewrite.ensures.survives clean) kept).1.1
+    on_ok_any c.rewrite.result (c.in_ok-tables.ensures.reads.2 (clean_before c.rewrite.ensures.survives clean) kept).1.1

@@ -15,7 +15,8 @@ returns-in_err-push_pair-clause-refused c =
     let us = c.args.undo.now in
     let same : c.from_residual.result ≡ Err c.in_err-push_pair.field-0.0 = search rules in
     subst (λ r. IfErr r (λ e. e ≢ Error.SqliteFailure ErrorCode.OutOfMemory → ArePaired ws us → ⊥)) (sym same)
-    (λ other paired. c.in_err-push_pair.ensures.refused other (paired_at ws us c.at.at c.index-writes-at.result c.index-undo-at.result c.at-test.true c.if-writes-undo.false c.index-writes-at.is c.index-undo-at.is paired))
+    (λ other paired. c.in_err-push_pair.ensures.refused other
+    (paired_at ws us c.at.at c.index-writes-at.result c.index-undo-at.result c.at-test.true c.if-writes-undo.false c.index-writes-at.is c.index-undo-at.is paired))
 
 pub at-preserved : goal.at-preserved
 at-preserved c =
@@ -26,7 +27,8 @@ at-preserved c =
     let more = more_paired ws us c.at.at w u c.at-test.true c.if-writes-undo.false c.index-writes-at.is c.index-undo-at.is c.in_ok-push_pair.ensures.paired c.at.invariant.0 in
     let rows = more_joined ws us c.at.at w u c.at-test.true c.if-writes-undo.false c.index-writes-at.is c.index-undo-at.is in (
       subst (λ n. ArePaired (take n ws) (take n us)) (sym (add-one c.at.at)) more,
-      c.in_ok-push_pair.ensures.pushed ∙ ap (λ (rows : List LogRow). rows ++ moved_row w u ∷ []) c.at.invariant.1 ∙ sym (subst (λ n. joined (take n ws) (take n us) ≡ joined (take c.at.at ws) (take c.at.at us) ++ moved_row w u ∷ []) (sym (add-one c.at.at)) rows),
+      c.in_ok-push_pair.ensures.pushed ∙ ap (λ (rows : List LogRow). rows ++ moved_row w u ∷ []) c.at.invariant.1
+          ∙ sym (subst (λ n. joined (take n ws) (take n us) ≡ joined (take c.at.at ws) (take c.at.at us) ++ moved_row w u ∷ []) (sym (add-one c.at.at)) rows),
     )
 
 pub returns-clause-moved : goal.returns-clause-moved

@@ -12,12 +12,18 @@ use Rattle.mr_first.proofs.puts.are_keys_rising.Goals as goal
 
 pub returns : goal.returns
 returns c =
-    let rooms = subst (λ (rows : List Text). IsTrue c.are_rising-rooms.result ↔ Rise text_before (λ (t : Text). t) rows) (c.deref.ensures.value ∙ ap (λ (t : FirstTables). t.room) c.first.view_is) c.are_rising-rooms.ensures in
-    let servers = subst (λ (rows : List VectorRow). IsTrue c.are_rising-servers.result ↔ Rise nat_lt (λ (r : VectorRow). r.server) rows) (c.deref-2.ensures.value ∙ ap (λ (t : FirstTables). t.vector) c.first.view_is) c.are_rising-servers.ensures in
-    let writes = subst (λ (rows : List WriteRow). IsTrue c.are_rising-writes.result ↔ Rise id_before write_id rows) (c.deref-3.ensures.value ∙ ap (λ (t : FirstTables). t.write_log) c.first.view_is) c.are_rising-writes.ensures in
-    let undo = subst (λ (rows : List FirstUndoRow). IsTrue c.are_rising-undo.result ↔ Rise id_before undo_id rows) (c.deref-4.ensures.value ∙ ap (λ (t : FirstTables). t.undo) c.first.view_is) c.are_rising-undo.ensures in
-    let bookings = subst (λ (rows : List BookingRow). IsTrue c.are_rising-bookings.result ↔ Rise id_before booking_id rows) (c.deref-5.ensures.value ∙ ap (λ (t : FirstTables). t.booking) c.first.view_is) c.are_rising-bookings.ensures in
-    let errors = subst (λ (rows : List ErrorRow). IsTrue c.are_rising-errors.result ↔ Rise id_before error_id rows) (c.deref-6.ensures.value ∙ ap (λ (t : FirstTables). t.errorlog) c.first.view_is) c.are_rising-errors.ensures in
+    let rooms = subst (λ (rows : List Text). IsTrue c.are_rising-rooms.result ↔ Rise text_before (λ (t : Text). t) rows)
+    (c.deref.ensures.value ∙ ap (λ (t : FirstTables). t.room) c.first.view_is) c.are_rising-rooms.ensures in
+    let servers = subst (λ (rows : List VectorRow). IsTrue c.are_rising-servers.result ↔ Rise nat_lt (λ (r : VectorRow). r.server) rows)
+    (c.deref-2.ensures.value ∙ ap (λ (t : FirstTables). t.vector) c.first.view_is) c.are_rising-servers.ensures in
+    let writes = subst (λ (rows : List WriteRow). IsTrue c.are_rising-writes.result ↔ Rise id_before write_id rows)
+    (c.deref-3.ensures.value ∙ ap (λ (t : FirstTables). t.write_log) c.first.view_is) c.are_rising-writes.ensures in
+    let undo = subst (λ (rows : List FirstUndoRow). IsTrue c.are_rising-undo.result ↔ Rise id_before undo_id rows)
+    (c.deref-4.ensures.value ∙ ap (λ (t : FirstTables). t.undo) c.first.view_is) c.are_rising-undo.ensures in
+    let bookings = subst (λ (rows : List BookingRow). IsTrue c.are_rising-bookings.result ↔ Rise id_before booking_id rows)
+    (c.deref-5.ensures.value ∙ ap (λ (t : FirstTables). t.booking) c.first.view_is) c.are_rising-bookings.ensures in
+    let errors = subst (λ (rows : List ErrorRow). IsTrue c.are_rising-errors.result ↔ Rise id_before error_id rows)
+    (c.deref-6.ensures.value ∙ ap (λ (t : FirstTables). t.errorlog) c.first.view_is) c.are_rising-errors.ensures in
     let all = both (both (both (both (both rooms servers) writes) undo) bookings) errors in (
       λ t. let p = all.0 t in record { room = p.0.0.0.0.0; vector = p.0.0.0.0.1; write_log = p.0.0.0.1; undo = p.0.0.1; booking = p.0.1; errorlog = p.1 },
       λ k. all.1 (((((k.room, k.vector), k.write_log), k.undo), k.booking), k.errorlog),

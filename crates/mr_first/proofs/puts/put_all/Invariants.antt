@@ -10,4 +10,5 @@ invariant-rows g l =
     let first = state g.S.Store l.fn.tx.conn.now in
     let now = state g.S.Store l.tx.conn.now in
     (l.tx.conn.ghost_name ≡ l.fn.tx.conn.ghost_name) × Survives first now (λ _. ⊥)
-    × IsFirstUnderWay first now (rows_put g.R.StoredRow.form g.R.FirstRow.rows_of g.R.FirstRow.with_rows (drop l.row-index l.rows) (first_in now.now.trees)) (rows_put g.R.StoredRow.form g.R.FirstRow.rows_of g.R.FirstRow.with_rows l.rows (first_in first.now.trees))
+    × IsFirstUnderWay first now (rows_put g.R.StoredRow.form g.R.FirstRow.rows_of g.R.FirstRow.with_rows (drop l.row-index l.rows) (first_in now.now.trees))
+    (rows_put g.R.StoredRow.form g.R.FirstRow.rows_of g.R.FirstRow.with_rows l.rows (first_in first.now.trees))

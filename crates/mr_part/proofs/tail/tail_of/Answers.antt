@@ -18,4 +18,5 @@ pub returns : goal.returns
 returns c = λ time server.
     let items = c.args.items.now in
     let none = at_drop_all (λ left. is_late c.args.commits (map item_of left) time server) items c.loop-item.item-index c.loop-item-test.false in
-    tail-ended c.args.commits items c.loop-item.tail time server (subst (λ b. (has_place c.loop-item.tail time server || b) ≡ is_late c.args.commits (map item_of items) time server) none (c.loop-item.invariant time server))
+    tail-ended c.args.commits items c.loop-item.tail time server
+    (subst (λ b. (has_place c.loop-item.tail time server || b) ≡ is_late c.args.commits (map item_of items) time server) none (c.loop-item.invariant time server))

@@ -1,5 +1,5 @@
 use Rattle.std.proofs.Common.{◌≡◌, subst, rules, true}
-use Rattle.mr_replica.specs.SharedLog.{AreInRunOrder, AreTold}
+use Rattle.mr_replica.specs.SharedLog.{AreKeptInRunOrder, AreTold}
 use Rattle.mr_replica.proofs.SharedLogs.{told_moved}
 use Rattle.mr_replica.proofs.shared_log.all_in_order.Goals as goal
 
@@ -11,5 +11,5 @@ returns c =
     let tested : c.deref-2.result.now ≡ sorted = search rules in
     record {
       told = subst (λ logs. AreTold logs sorted) all (told_moved c.deref.result.now c.in_ok-rows.rows.items sorted c.sort_rows.ensures.moved c.in_ok-rows.ensures);
-      order = subst AreInRunOrder tested (c.are_in_run_order.ensures yes);
+      order = subst AreKeptInRunOrder tested (c.are_in_run_order.ensures yes);
     }

@@ -9,5 +9,6 @@ use Rattle.mr_replica.proofs.shared_log.are_in_run_order.Goals as goal
 pub returns : goal.returns
 returns c = λ yes.
     let rows = c.args.rows.now in
-    let rise = rise_from run_before run_place rows c.is_sorted_by.result (c.is_sorted_by.ensures.cases (λ x y. run_before (run_place x) (run_place y)) (answers_always _ _ _ (λ f a r f' k. search rules))) in
+    let rise = rise_from run_before run_place rows c.is_sorted_by.result
+    (c.is_sorted_by.ensures.cases (λ x y. run_before (run_place x) (run_place y)) (answers_always _ _ _ (λ f a r f' k. search rules))) in
     rise_run rows (rise.0 yes)

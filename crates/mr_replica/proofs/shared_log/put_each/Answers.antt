@@ -39,4 +39,5 @@ loop-log-preserved c =
 
 pub returns : goal.returns
 returns c = λ shared.
-    subst (λ xs. IsSharedLog (put_all id_before log_id xs c.args.table.now.rows) c.loop-log.rows.items) (take_all c.loop-log.log-index c.args.news.now c.loop-log-test.false) (c.loop-log.invariant.0 shared)
+    subst (λ xs. IsSharedLog (put_all id_before log_id xs c.args.table.now.rows) c.loop-log.rows.items)
+    (take_all c.loop-log.log-index c.args.news.now c.loop-log-test.false) (c.loop-log.invariant.0 shared)

@@ -14,7 +14,8 @@ pub returns-clause-reads : goal.returns-clause-reads
 returns-clause-reads g c =
     let old = state g.S.Store c.args.conn.now in
     let new = state g.S.Store c.find.new.conn in
-    reads_so old new c.find.result (λ r. AreStoredAs room_form old.now.trees × (IsTrue true → AreRowsOf room_form old.now.trees r.items)) _ (λ kept r p. rooms_of old.now.trees r.items kept.ours.held.room (p.1 refl)) (kept_looks old new c.find.result _ (c.find.ensures.looks our_schema (inl refl)))
+    reads_so old new c.find.result (λ r. AreStoredAs room_form old.now.trees × (IsTrue true → AreRowsOf room_form old.now.trees r.items)) _
+    (λ kept r p. rooms_of old.now.trees r.items kept.ours.held.room (p.1 refl)) (kept_looks old new c.find.result _ (c.find.ensures.looks our_schema (inl refl)))
 
 pub returns-clause-cause : goal.returns-clause-cause
 returns-clause-cause g c = c.find.ensures.cause our_schema (inl refl)

@@ -13,4 +13,5 @@ abbrev pub invariant-rows : goal.invariant-rows
 invariant-rows g l =
     let old = state g.S.Store l.fn.conn in
     (l.rows.conn.ghost_name ≡ l.initial.rows.conn.ghost_name) × (l.rows.conn.now.in_transaction ≡ false)
-    × ((under : Schema) → IsPlain (understood under l.sql) → LooksIn {X = Unit {0}} under old (state g.S.Store l.rows.conn.now) (Ok tt) (λ _. SoFar g.S.Store l.sql [] (AreTaken g.R.StoredRow.form l.keep l.out.items) old l.rows.conn.now))
+    × ((under : Schema) → IsPlain (understood under l.sql)
+    → LooksIn {X = Unit {0}} under old (state g.S.Store l.rows.conn.now) (Ok tt) (λ _. SoFar g.S.Store l.sql [] (AreTaken g.R.StoredRow.form l.keep l.out.items) old l.rows.conn.now))

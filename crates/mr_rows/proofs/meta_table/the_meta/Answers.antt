@@ -19,7 +19,8 @@ use Rattle.mr_rows.proofs.meta_table.the_meta.Goals as goal
 pub returns-in_err-rows-clause-looks : goal.returns-in_err-rows-clause-looks
 returns-in_err-rows-clause-looks g c under two =
     let p = err_from_is_err_and c.from_residual.result c.from_residual.ensures.1 in
-    same_reads (IsPlacedIn under) (state g.S.Store c.args.conn.now) (state g.S.Store c.select_all_meta.new.conn) c.select_all_meta.result _ c.from_residual.result _ c.in_err-rows.field-0.0 (p.1 ∙ ap Err p.2) (c.select_all_meta.ensures.looks under two)
+    same_reads (IsPlacedIn under) (state g.S.Store c.args.conn.now) (state g.S.Store c.select_all_meta.new.conn) c.select_all_meta.result
+    _ c.from_residual.result _ c.in_err-rows.field-0.0 (p.1 ∙ ap Err p.2) (c.select_all_meta.ensures.looks under two)
 
 pub returns-clause-looks : goal.returns-clause-looks
 returns-clause-looks g c under two =
@@ -28,7 +29,8 @@ returns-clause-looks g c under two =
     let shown = c.in_ok-rows.rows.items in
     let same : c.deref.result.now ≡ shown = search rules in
     looks_made old (state g.S.Store c.select_all_meta.new.conn) c.in_ok-rows.rows (λ rows. IsPermutation (map (columns_from 1 7) (old.now.trees 0)) rows.items) c.first_meta.result _
-    (λ here read. told_so c.first_meta.result _ _ (λ row is held. meta_is (old.now.trees 0) (map (λ row. meta_in (Null ∷ row)) shown) row (shown_rows form number_order (columns_from 1 7) (old.now.trees 0) shown (λ r. refl) held read) is) (rw same at c.first_meta.ensures.row))
+    (λ here read. told_so c.first_meta.result _ _ (λ row is held. meta_is (old.now.trees 0) (map (λ row. meta_in (Null ∷ row)) shown) row
+    (shown_rows form number_order (columns_from 1 7) (old.now.trees 0) shown (λ r. refl) held read) is) (rw same at c.first_meta.ensures.row))
     (c.in_ok-rows.ensures.looks under two)
 
 pub returns-in_err-rows-clause-cause : goal.returns-in_err-rows-clause-cause
@@ -42,6 +44,8 @@ returns-clause-cause g c under two =
     let form = meta_form_of c.args.number in
     let shown = c.in_ok-rows.rows.items in
     let same : c.deref.result.now ≡ shown = search rules in
-    made_fails old (state g.S.Store c.select_all_meta.new.conn) c.in_ok-rows.rows (λ rows. IsPermutation (map (columns_from 1 7) (old.now.trees 0)) rows.items) (λ trees. AreStoredAs form trees × (length (trees 0) ≡ 1)) c.first_meta.result
+    made_fails old (state g.S.Store c.select_all_meta.new.conn) c.in_ok-rows.rows (λ rows. IsPermutation (map (columns_from 1 7) (old.now.trees 0)) rows.items)
+    (λ trees. AreStoredAs form trees × (length (trees 0) ≡ 1)) c.first_meta.result
     (c.in_ok-rows.ensures.looks under two)
-    (λ rows read. not_first_meta c.args.number (IsStoredAs form) (λ r is. (meta_shown c.args.number (columns_from 1 7 r)).1 is) (old.now.trees 0) shown c.first_meta.result read (rw same at c.first_meta.ensures.refused) rows)
+    (λ rows read. not_first_meta c.args.number (IsStoredAs form) (λ r is. (meta_shown c.args.number (columns_from 1 7 r)).1 is)
+    (old.now.trees 0) shown c.first_meta.result read (rw same at c.first_meta.ensures.refused) rows)

@@ -23,6 +23,8 @@ returns-clause-put g c =
     let cells : c.add.new.cells.items ≡ columns.cells parts = c.in_ok-add.ensures.added ∙ ap (λ xs. xs ++ columns.cells parts) c.new-cells.ensures.items in
     let taken : bound c.in_ok-params.params.items ≡ columns.cells parts = c.in_ok-params.ensures ∙ ap (λ xs. map bound_value xs) (c.deref.ensures.value ∙ cells) ∙ (spelled parts).1 in
     let params : bound c.deref-2.result.now ≡ f.cells (of parts) = ap bound c.deref-2.ensures.value ∙ taken ∙ sym (made.spelled parts) in
-    let ran = λ (clean : HasCleanDisk (state g.S.Store new)) (within : IsTrue old.in_transaction). subst (λ (cells : Row). ExecutesInside 0 text cells (state g.S.Store old) (state g.S.Store new) c.execute.result) params (c.execute.ensures.runs clean within) in
+    let ran = λ (clean : HasCleanDisk (state g.S.Store new)) (within : IsTrue old.in_transaction).
+    subst (λ (cells : Row). ExecutesInside 0 text cells (state g.S.Store old) (state g.S.Store new) c.execute.result) params (c.execute.ensures.runs clean within) in
     subst (λ row. PutsRow g.R.StoredRow.stands_in f row (state g.S.Store old) (state g.S.Store new) c.execute.result) (sym c.parts.ensures ∙ c.in_ok-copied.ensures)
-    (puts_row g.S.Store f old new text c.execute.result g.R.StoredRow.stands_in (of parts) c.texts.ensures.puts (λ id. read_back f columns of made spelled parts c.in_ok-add.ensures.again (Int id)) ran (λ outside. (c.execute.ensures.ended outside).1))
+    (puts_row g.S.Store f old new text c.execute.result g.R.StoredRow.stands_in (of parts) c.texts.ensures.puts
+    (λ id. read_back f columns of made spelled parts c.in_ok-add.ensures.again (Int id)) ran (λ outside. (c.execute.ensures.ended outside).1))

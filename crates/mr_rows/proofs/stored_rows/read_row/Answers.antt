@@ -14,16 +14,19 @@ returns-in_err-parts-clause-refused g c =
     search rules
 
 pub returns-clause-row : goal.returns-clause-row
-returns-clause-row g c = c.of.ensures ∙ ap g.R.StoredRow.of c.in_ok-parts.ensures.value ∙ sym (read_behind g.R.StoredRow.form g.R.Parts.Cells.columns g.R.StoredRow.of g.met.R.StoredRow.made Null c.args.row.now)
+returns-clause-row g c = c.of.ensures ∙ ap g.R.StoredRow.of c.in_ok-parts.ensures.value
+    ∙ sym (read_behind g.R.StoredRow.form g.R.Parts.Cells.columns g.R.StoredRow.of g.met.R.StoredRow.made Null c.args.row.now)
 
 pub returns-clause-cells : goal.returns-clause-cells
 returns-clause-cells g c =
     let shown = made_shown g.R.StoredRow.form g.R.Parts.Cells.columns g.R.StoredRow.of g.met.R.StoredRow.made g.met.R.Parts.Cells.shown c.args.row.now in
-    let row = c.of.ensures ∙ ap g.R.StoredRow.of c.in_ok-parts.ensures.value ∙ sym (read_behind g.R.StoredRow.form g.R.Parts.Cells.columns g.R.StoredRow.of g.met.R.StoredRow.made Null c.args.row.now) in
+    let row = c.of.ensures ∙ ap g.R.StoredRow.of c.in_ok-parts.ensures.value
+    ∙ sym (read_behind g.R.StoredRow.form g.R.Parts.Cells.columns g.R.StoredRow.of g.met.R.StoredRow.made Null c.args.row.now) in
     ap g.R.StoredRow.form.cells row ∙ (shown.0 c.in_ok-parts.ensures.told).0
 
 pub returns-clause-within : goal.returns-clause-within
 returns-clause-within g c =
     let shown = made_shown g.R.StoredRow.form g.R.Parts.Cells.columns g.R.StoredRow.of g.met.R.StoredRow.made g.met.R.Parts.Cells.shown c.args.row.now in
-    let row = c.of.ensures ∙ ap g.R.StoredRow.of c.in_ok-parts.ensures.value ∙ sym (read_behind g.R.StoredRow.form g.R.Parts.Cells.columns g.R.StoredRow.of g.met.R.StoredRow.made Null c.args.row.now) in
+    let row = c.of.ensures ∙ ap g.R.StoredRow.of c.in_ok-parts.ensures.value
+    ∙ sym (read_behind g.R.StoredRow.form g.R.Parts.Cells.columns g.R.StoredRow.of g.met.R.StoredRow.made Null c.args.row.now) in
     ap g.R.StoredRow.form.within row ∙ (shown.0 c.in_ok-parts.ensures.told).1

@@ -12,4 +12,7 @@ returns-in_err-part g c =
 
 pub returns : goal.returns
 returns g c =
-    record { served = made_by g.K.Keeper c.args.keeper.now c.load.new.keeper c.change.new.keeper (NextCommits c.args.k) c.in_ok-part.part _ _ (Commit c.args.k) (λ a. commit a c.args.k) c.in_ok-part.ensures c.change.ensures (λ a. refl) c.commit.ensures }
+    record {
+      served = made_by g.K.Keeper c.args.keeper.now c.load.new.keeper c.change.new.keeper (NextCommits c.args.k) c.in_ok-part.part _ _
+          (Commit c.args.k) (λ a. commit a c.args.k) c.in_ok-part.ensures c.change.ensures (λ a. refl) c.commit.ensures;
+    }

@@ -14,4 +14,7 @@ returns-in_err-part g c =
 
 pub returns : goal.returns
 returns g c =
-    record { served = told_by g.K.Keeper c.args.keeper.now c.load.new.keeper Nothing c.in_ok-part.part c.position.result AskPosition (λ a. leave a (PositionIs (position_of a))) c.in_ok-part.ensures (λ a. refl) (c.position.ensures c.in_ok-part.ensures.within) }
+    record {
+      served = told_by g.K.Keeper c.args.keeper.now c.load.new.keeper Nothing c.in_ok-part.part c.position.result AskPosition
+          (λ a. leave a (PositionIs (position_of a))) c.in_ok-part.ensures (λ a. refl) (c.position.ensures c.in_ok-part.ensures.within);
+    }

@@ -15,7 +15,11 @@ use Rattle.mr_service.proofs.changing.receive.Goals as goal
 pub returns-in_err-batch : goal.returns-in_err-batch
 returns-in_err-batch g c =
     let p = err_from_is_err_and c.from_residual.result c.from_residual.ensures.1 in
-    record { served = rw (p.1, p.2) (unread g.K.Keeper c.args.keeper.now (Receive c.args.bytes.now) c.in_err-batch.field-0.0 (λ t. word_step t (Receive c.args.bytes.now) c.in_err-batch.field-0.0 (words.batch_refused c.args.bytes.now c.in_err-batch.field-0.0 c.in_err-batch.ensures.exact)) (words.batch_not_store c.args.bytes.now c.in_err-batch.field-0.0 c.in_err-batch.ensures.refuses)) }
+    record {
+      served = rw (p.1, p.2) (unread g.K.Keeper c.args.keeper.now (Receive c.args.bytes.now) c.in_err-batch.field-0.0
+          (λ t. word_step t (Receive c.args.bytes.now) c.in_err-batch.field-0.0 (words.batch_refused c.args.bytes.now c.in_err-batch.field-0.0 c.in_err-batch.ensures.exact))
+          (words.batch_not_store c.args.bytes.now c.in_err-batch.field-0.0 c.in_err-batch.ensures.refuses));
+    }
 
 pub returns-in_err-part : goal.returns-in_err-part
 returns-in_err-part g c =
@@ -24,4 +28,9 @@ returns-in_err-part g c =
 
 pub returns : goal.returns
 returns g c =
-    record { served = made_by g.K.Keeper c.args.keeper.now c.load.new.keeper c.change.new.keeper (OfItems c.in_ok-batch.batch.items) c.in_ok-part.part _ _ (Receive c.args.bytes.now) (λ a. receive_batch a c.in_ok-batch.batch) (subst (λ (b : Batch). IsLoaded g.K.Keeper c.args.keeper.now c.load.new.keeper (OfItems b.items) (Ok c.in_ok-part.part)) c.batch.view_is (subst (λ (items : List Item). IsLoaded g.K.Keeper c.args.keeper.now c.load.new.keeper (OfItems (map item_of items)) (Ok c.in_ok-part.part)) c.as_slice.ensures.value c.in_ok-part.ensures)) c.change.ensures (words.batch_received c.args.bytes.now c.in_ok-batch.batch c.in_ok-batch.ensures.exact) c.receive.ensures }
+    record {
+      served = made_by g.K.Keeper c.args.keeper.now c.load.new.keeper c.change.new.keeper (OfItems c.in_ok-batch.batch.items) c.in_ok-part.part _ _ (Receive c.args.bytes.now)
+          (λ a. receive_batch a c.in_ok-batch.batch) (subst (λ (b : Batch). IsLoaded g.K.Keeper c.args.keeper.now c.load.new.keeper (OfItems b.items) (Ok c.in_ok-part.part)) c.batch.view_is
+          (subst (λ (items : List Item). IsLoaded g.K.Keeper c.args.keeper.now c.load.new.keeper (OfItems (map item_of items)) (Ok c.in_ok-part.part)) c.as_slice.ensures.value c.in_ok-part.ensures))
+          c.change.ensures (words.batch_received c.args.bytes.now c.in_ok-batch.batch c.in_ok-batch.ensures.exact) c.receive.ensures;
+    }

@@ -12,4 +12,7 @@ returns-in_err-part g c =
 
 pub returns : goal.returns
 returns g c =
-    record { served = made_by g.K.Keeper c.args.keeper.now c.load.new.keeper c.change.new.keeper (UpTo c.args.number) c.in_ok-part.part _ _ (Truncate c.args.number) (λ a. truncate a c.args.number) c.in_ok-part.ensures c.change.ensures (λ a. refl) c.truncate.ensures }
+    record {
+      served = made_by g.K.Keeper c.args.keeper.now c.load.new.keeper c.change.new.keeper (UpTo c.args.number) c.in_ok-part.part _ _
+          (Truncate c.args.number) (λ a. truncate a c.args.number) c.in_ok-part.ensures c.change.ensures (λ a. refl) c.truncate.ensures;
+    }

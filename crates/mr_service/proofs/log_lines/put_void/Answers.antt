@@ -7,4 +7,5 @@ use Rattle.mr_service.proofs.log_lines.put_void.Goals as goal
 
 pub loop-row-preserved : goal.loop-row-preserved
 loop-row-preserved c =
-    picked_more (λ row. OfVoid row) (λ (row : CancelRow). not row.done) (map log_line_seen c.args.lines.now.items) (map log_line_seen c.loop-row.lines.items) (map log_line_seen c.put_if_void.new.lines.items) c.loop-row.yielded c.in-Some.row c.loop-row.invariant c.in_ok-put_if_void.ensures.lines
+    picked_more (λ row. OfVoid row) (λ (row : CancelRow). not row.done) (map log_line_seen c.args.lines.now.items) (map log_line_seen c.loop-row.lines.items)
+    (map log_line_seen c.put_if_void.new.lines.items) c.loop-row.yielded c.in-Some.row c.loop-row.invariant c.in_ok-put_if_void.ensures.lines

@@ -23,12 +23,14 @@ returns-in_err-rooms-clause-finds g c =
 
 pub returns-then-is_among-clause-finds : goal.returns-then-is_among-clause-finds
 returns-then-is_among-clause-finds g c =
-    λ k o. steps.room_found (g.K.Keeper.tables c.args.keeper.now).room c.in_ok-rooms.rooms.items c.args.room.now c.in_ok-room.room c.is_among.result c.in_ok-room.ensures.value (c.in_ok-rooms.ensures.rooms k o)
+    λ k o. steps.room_found (g.K.Keeper.tables c.args.keeper.now).room c.in_ok-rooms.rooms.items c.args.room.now c.in_ok-room.room c.is_among.result c.in_ok-room.ensures.value
+    (c.in_ok-rooms.ensures.rooms k o)
     (c.is_among.ensures ∙ ap (list_any (bytes_eq c.in_ok-room.room)) c.as_slice.ensures.value) c.if-is_among.true
 
 pub returns-else-is_among-clause-finds : goal.returns-else-is_among-clause-finds
 returns-else-is_among-clause-finds g c =
-    λ k o. steps.room_unknown (g.K.Keeper.tables c.args.keeper.now).room c.in_ok-rooms.rooms.items c.args.room.now c.in_ok-room.room c.is_among.result c.in_ok-room.ensures.value (c.in_ok-rooms.ensures.rooms k o)
+    λ k o. steps.room_unknown (g.K.Keeper.tables c.args.keeper.now).room c.in_ok-rooms.rooms.items c.args.room.now c.in_ok-room.room c.is_among.result c.in_ok-room.ensures.value
+    (c.in_ok-rooms.ensures.rooms k o)
     (c.is_among.ensures ∙ ap (list_any (bytes_eq c.in_ok-room.room)) c.as_slice.ensures.value) c.if-is_among.false
 
 pub returns-in_err-room-clause-refuses : goal.returns-in_err-room-clause-refuses

@@ -33,14 +33,16 @@ returns g c =
     let requests = c.in_ok-requests.requests.items in
     let cancels = c.in_ok-cancels.cancels.items in
     let open_first : k.is_clean c.cancels.new.self → k.is_open c.args.keeper.now → k.is_open c.errors.new.self = λ u o. c.in_ok-requests.ensures.quiet.lasts (c.cancels.ensures.quiet.clean u) o in
-    let same : k.is_clean c.cancels.new.self → k.is_open c.args.keeper.now → k.tables c.errors.new.self ≡ k.tables c.args.keeper.now = λ u o. c.errors.ensures.quiet.same (c.cancels.ensures.quiet.clean u) (open_first u o) in
+    let same : k.is_clean c.cancels.new.self → k.is_open c.args.keeper.now
+    → k.tables c.errors.new.self ≡ k.tables c.args.keeper.now = λ u o. c.errors.ensures.quiet.same (c.cancels.ensures.quiet.clean u) (open_first u o) in
     record {
       read = read_within k c.args.keeper.now c.cancels.new.self true c.log_lines.result
           (read_next k c.args.keeper.now c.errors.new.self c.cancels.new.self true _ (read_ok k c.args.keeper.now c.errors.new.self true _ c.in_ok-requests.ensures.quiet)
           (read_ok k c.errors.new.self c.cancels.new.self true _ c.in_ok-cancels.ensures.quiet))
           c.log_lines.ensures.only;
       shows = λ u o.
-          both_ok c.log_lines.result (λ lines. IsPermutation (lines_of requests cancels) (map log_line_seen lines.items)) (λ lines. IsSortedByKey line_key log_key_cmp lines.items) (λ lines. ShowsLines c.args.room.now (k.tables c.args.keeper.now) (map log_line_seen lines.items))
+          both_ok c.log_lines.result (λ lines. IsPermutation (lines_of requests cancels) (map log_line_seen lines.items))
+          (λ lines. IsSortedByKey line_key log_key_cmp lines.items) (λ lines. ShowsLines c.args.room.now (k.tables c.args.keeper.now) (map log_line_seen lines.items))
           (λ lines moved up. steps.lines_shown (k.tables c.args.keeper.now) c.args.room.now requests cancels lines.items
           (c.in_ok-requests.ensures.errors (c.cancels.ensures.quiet.clean u) o)
           (subst (λ t. IsPermutation (picked_cancels c.args.room.now t) cancels) (same u o) (c.in_ok-cancels.ensures.cancels u (open_first u o))) moved up)

@@ -19,12 +19,16 @@ pub returns-in-Some : goal.returns-in-Some
 returns-in-Some g c =
     record {
       read = read_ok g.K.Keeper c.args.keeper.now c.place_of.new.self _ _ c.in_ok-place.ensures.quiet;
-      tells = λ u o. steps.cancelled_tells (g.K.Keeper.tables c.args.keeper.now) c.args.room.now c.args.row.now c.in_ok-place.place c.in-Some.by c.cancelled.result (subst (λ (r : CancelledRow). IsPlaceOf c.args.room.now r.by (g.K.Keeper.tables c.args.keeper.now) c.in_ok-place.place) c.row.view_is (c.in_ok-place.ensures.place u o)) (sym c.in-Some.ensures) c.cancelled.ensures;
+      tells = λ u o. steps.cancelled_tells (g.K.Keeper.tables c.args.keeper.now) c.args.room.now c.args.row.now c.in_ok-place.place c.in-Some.by c.cancelled.result
+          (subst (λ (r : CancelledRow). IsPlaceOf c.args.room.now r.by (g.K.Keeper.tables c.args.keeper.now) c.in_ok-place.place) c.row.view_is (c.in_ok-place.ensures.place u o))
+          (sym c.in-Some.ensures) c.cancelled.ensures;
     }
 
 pub returns-in-None : goal.returns-in-None
 returns-in-None g c =
     record {
       read = read_made g.K.Keeper c.args.keeper.now c.place_of.new.self true _ (read_ok g.K.Keeper c.args.keeper.now c.place_of.new.self true _ c.in_ok-place.ensures.quiet) (λ told. cc told);
-      tells = λ u o. steps.never_without (g.K.Keeper.tables c.args.keeper.now) c.args.room.now c.args.row.now c.in_ok-place.place NoSuchRequest (subst (λ (r : CancelledRow). IsPlaceOf c.args.room.now r.by (g.K.Keeper.tables c.args.keeper.now) c.in_ok-place.place) c.row.view_is (c.in_ok-place.ensures.place u o)) (sym c.in-None.ensures);
+      tells = λ u o. steps.never_without (g.K.Keeper.tables c.args.keeper.now) c.args.room.now c.args.row.now c.in_ok-place.place NoSuchRequest
+          (subst (λ (r : CancelledRow). IsPlaceOf c.args.room.now r.by (g.K.Keeper.tables c.args.keeper.now) c.in_ok-place.place) c.row.view_is (c.in_ok-place.ensures.place u o))
+          (sym c.in-None.ensures);
     }

@@ -46,9 +46,12 @@ returns g c =
     let cancels = c.in_ok-cancels.cancels.items in
     let first : k.is_clean c.cancels.new.self → k.is_clean c.bookings.new.self = λ u. c.cancelled.ensures.quiet.clean (c.cancels.ensures.quiet.clean u) in
     let open_first : k.is_clean c.cancels.new.self → k.is_open c.args.keeper.now → k.is_open c.bookings.new.self = λ u o. c.in_ok-bookings.ensures.quiet.lasts (first u) o in
-    let open_next : k.is_clean c.cancels.new.self → k.is_open c.args.keeper.now → k.is_open c.cancelled.new.self = λ u o. c.in_ok-cancelled.ensures.quiet.lasts (c.cancels.ensures.quiet.clean u) (open_first u o) in
-    let same_first : k.is_clean c.cancels.new.self → k.is_open c.args.keeper.now → k.tables c.bookings.new.self ≡ k.tables c.args.keeper.now = λ u o. c.bookings.ensures.quiet.same (first u) (open_first u o) in
-    let same_next : k.is_clean c.cancels.new.self → k.is_open c.args.keeper.now → k.tables c.cancelled.new.self ≡ k.tables c.args.keeper.now = λ u o. c.cancelled.ensures.quiet.same (c.cancels.ensures.quiet.clean u) (open_next u o) ∙ same_first u o in
+    let open_next : k.is_clean c.cancels.new.self → k.is_open c.args.keeper.now
+    → k.is_open c.cancelled.new.self = λ u o. c.in_ok-cancelled.ensures.quiet.lasts (c.cancels.ensures.quiet.clean u) (open_first u o) in
+    let same_first : k.is_clean c.cancels.new.self → k.is_open c.args.keeper.now
+    → k.tables c.bookings.new.self ≡ k.tables c.args.keeper.now = λ u o. c.bookings.ensures.quiet.same (first u) (open_first u o) in
+    let same_next : k.is_clean c.cancels.new.self → k.is_open c.args.keeper.now
+    → k.tables c.cancelled.new.self ≡ k.tables c.args.keeper.now = λ u o. c.cancelled.ensures.quiet.same (c.cancels.ensures.quiet.clean u) (open_next u o) ∙ same_first u o in
     record {
       read = read_within k c.args.keeper.now c.cancels.new.self true c.committed_calendar.result
           (read_next k c.args.keeper.now c.bookings.new.self c.cancels.new.self true _ (read_ok k c.args.keeper.now c.bookings.new.self true _ c.in_ok-bookings.ensures.quiet)
@@ -56,7 +59,8 @@ returns g c =
           (read_ok k c.cancelled.new.self c.cancels.new.self true _ c.in_ok-cancels.ensures.quiet)))
           c.committed_calendar.ensures.only;
       shows = λ u o.
-          both_ok c.committed_calendar.result (λ shown. IsPermutation (committed_rows bookings cancelled cancels) shown.items) (λ shown. IsSortedBy booking_before shown.items) (λ shown. ShowsCalendar Committed c.args.room.now (k.tables c.args.keeper.now) shown.items)
+          both_ok c.committed_calendar.result (λ shown. IsPermutation (committed_rows bookings cancelled cancels) shown.items)
+          (λ shown. IsSortedBy booking_before shown.items) (λ shown. ShowsCalendar Committed c.args.room.now (k.tables c.args.keeper.now) shown.items)
           (λ shown moved up. steps.committed_shown (k.tables c.args.keeper.now) c.args.room.now bookings cancelled cancels shown.items
           (c.in_ok-bookings.ensures.bookings (first u) o)
           (subst (λ t. IsPermutation (picked_cancelled c.args.room.now t) cancelled) (same_first u o) (c.in_ok-cancelled.ensures.cancelled (c.cancels.ensures.quiet.clean u) (open_first u o)))

@@ -10,4 +10,5 @@ returns-in-Full-clause-shows g c = λ u o.
 
 pub returns-in-Committed-clause-shows : goal.returns-in-Committed-clause-shows
 returns-in-Committed-clause-shows g c = λ u o.
-    subst (λ p. IfOk c.rows_of_committed.result (λ rows. ShowsCalendar (part_seen p) c.args.room.now (g.K.Keeper.tables c.args.keeper.now) rows.items)) (sym c.in-Committed.is) (c.rows_of_committed.ensures.shows u o)
+    subst (λ p. IfOk c.rows_of_committed.result (λ rows. ShowsCalendar (part_seen p) c.args.room.now (g.K.Keeper.tables c.args.keeper.now) rows.items))
+    (sym c.in-Committed.is) (c.rows_of_committed.ensures.shows u o)

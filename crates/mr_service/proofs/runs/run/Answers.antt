@@ -10,12 +10,17 @@ use Rattle.mr_service.proofs.runs.run.Goals as goal
 pub loop-command-init : goal.loop-command-init
 loop-command-init g c =
     let n : vec_len c.in-Ok.replies ≡ 0 = c.in-Ok.ensures.len in
-    let m : length c.args.commands.now ≤ vec_capacity c.in-Ok.replies = omega (arith, c.in-Ok.ensures.capacity) in
-    (rw c.in-Ok.ensures.items (runs.under_way (g.K.Keeper.is_clean c.args.service.now) (g.K.Keeper.is_open c.args.service.now) g.K.Keeper.never_fails (g.K.Keeper.tables c.args.service.now) (g.K.Keeper.failures c.args.service.now)), n, m)
+    let m : length c.args.commands.now ≤ vec_capacity c.in-Ok.replies = omega (arith, c.in-Ok.ensures.capacity) in (
+      rw c.in-Ok.ensures.items (runs.under_way (g.K.Keeper.is_clean c.args.service.now) (g.K.Keeper.is_open c.args.service.now) g.K.Keeper.never_fails
+          (g.K.Keeper.tables c.args.service.now) (g.K.Keeper.failures c.args.service.now)),
+      n,
+      m,
+    )
 
 pub loop-command-preserved : goal.loop-command-preserved
 loop-command-preserved g c =
-    let more : map command_seen (take (c.loop-command.command-index + 1) c.args.commands.now) ≡ map command_seen (take c.loop-command.command-index c.args.commands.now) ++ command_seen c.command-item.result ∷ [] =
+    let more : map command_seen (take (c.loop-command.command-index + 1) c.args.commands.now)
+    ≡ map command_seen (take c.loop-command.command-index c.args.commands.now) ++ command_seen c.command-item.result ∷ [] =
     map_more command_seen c.args.commands.now c.loop-command.command-index c.command-item.result c.loop-command-test.true
     ∙ ap (λ x. map command_seen (take c.loop-command.command-index c.args.commands.now) ++ command_seen x ∷ []) (sym c.command-item.is) in
     let told : map reply_of c.put.new.list.items ≡ map reply_of c.loop-command.replies.items ++ reply_of c.ask-reply.result ∷ [] =

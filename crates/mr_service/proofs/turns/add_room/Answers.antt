@@ -9,7 +9,8 @@ use Rattle.mr_service.proofs.turns.add_room.Goals as goal
 pub returns-in_err-change : goal.returns-in_err-change
 returns-in_err-change c =
     let p = err_from_is_err_and c.from_residual.result c.from_residual.ensures.1 in
-    rw (p.1, p.2) (refuses Nothing (λ a. add_room a c.args.room.now) (λ _ _. RoomAdded) (λ change. change) c.in_err-change.field-0.0 c.args.part.now c.in_err-change.ensures.step c.in_err-change.ensures.own)
+    rw (p.1, p.2) (refuses Nothing (λ a. add_room a c.args.room.now) (λ _ _. RoomAdded)
+    (λ change. change) c.in_err-change.field-0.0 c.args.part.now c.in_err-change.ensures.step c.in_err-change.ensures.own)
 
 pub returns : goal.returns
 returns c =

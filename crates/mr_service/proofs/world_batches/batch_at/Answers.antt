@@ -20,4 +20,5 @@ returns-in-Err-clause-stays c = λ rs h. stand_still c.args.members.now.items rs
 pub returns-in-Err-clause-made : goal.returns-in-Err-clause-made
 returns-in-Err-clause-made c = λ rs a h e.
     let here = stand_at c.args.members.now.items rs c.args.maker c.index_mut.result.now a h c.requires c.index_mut.ensures.value e in
-    refused_made (reply_to_position a (read_position c.args.position.items) c.args.max_lines) (refusal_of c.in-Err.refusal) (map (λ bytes. bytes.items) c.args.pool.now.items) (c.in-Err.ensures.refused a here)
+    refused_made (reply_to_position a (read_position c.args.position.items) c.args.max_lines)
+    (refusal_of c.in-Err.refusal) (map (λ bytes. bytes.items) c.args.pool.now.items) (c.in-Err.ensures.refused a here)

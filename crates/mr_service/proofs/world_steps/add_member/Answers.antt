@@ -20,4 +20,5 @@ pub returns-in-Err : goal.returns-in-Err
 returns-in-Err c = λ pool.
     let ms = c.args.members.now.items in
     let s = c.args.server in
-    subst (λ (xs : List MemberView). TakesWorldStep (world ms pool) (Add s) (step_reply_of c.no_memory.result) (world xs pool)) (sym c.in-Err.ensures.err) (wants (world ms pool) (Add s) (step_reply_of c.no_memory.result) c.requires.server c.no_memory.ensures)
+    subst (λ (xs : List MemberView). TakesWorldStep (world ms pool) (Add s) (step_reply_of c.no_memory.result) (world xs pool))
+    (sym c.in-Err.ensures.err) (wants (world ms pool) (Add s) (step_reply_of c.no_memory.result) c.requires.server c.no_memory.ensures)

@@ -9,4 +9,5 @@ returns-in-Some c = λ pool.
     do_found ms pool c.args.server c.in-Some.place c.args.command.now c.index_mut.result.now c.ask.new.self (reply_of c.ask.result) found c.index_mut.ensures.value c.ask.ensures
 
 pub returns-in-None : goal.returns-in-None
-returns-in-None c = λ pool. do_nobody c.args.members.now.items pool c.args.server c.args.command.now (none_in c.as_slice.result.now c.args.members.now.items c.args.server c.as_slice.ensures.value c.in-None.ensures)
+returns-in-None c = λ pool. do_nobody c.args.members.now.items pool c.args.server c.args.command.now
+    (none_in c.as_slice.result.now c.args.members.now.items c.args.server c.as_slice.ensures.value c.in-None.ensures)

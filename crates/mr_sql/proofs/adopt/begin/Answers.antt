@@ -25,7 +25,8 @@ returns-in-Ok g c =
               kept = c.in-Ok.ensures.kept clean now c.requires.blank;
               tables = inl (
                 sound_as old no_schema taken c.requires.blank,
-                opening_stands _ _ _ c.number.ensures.in_range c.number-2.ensures.in_range c.number.ensures.value c.number-2.ensures.value c.opening-row.ensures (c.in-Ok.ensures.tables clean now c.requires.blank),
+                opening_stands _ _ _ c.number.ensures.in_range c.number-2.ensures.in_range c.number.ensures.value c.number-2.ensures.value c.opening-row.ensures
+                    (c.in-Ok.ensures.tables clean now c.requires.blank),
               );
               fresh = tt;
             };

@@ -28,27 +28,32 @@ Asked trees = AreOurRows trees × (length (trees 0) ≤ 1)
 pub returns-in_err-is_other-clause-looks : goal.returns-in_err-is_other-clause-looks
 returns-in_err-is_other-clause-looks g c =
     let p = err_from_is_err_and c.from_residual.result c.from_residual.ensures.1 in
-    same_reads (IsPlacedIn our_schema) (state g.S.Store c.args.conn.now) (state g.S.Store c.has_other_number.new.conn) c.has_other_number.result _ c.from_residual.result _ c.in_err-is_other.field-0.0 (p.1 ∙ ap Err p.2) (c.has_other_number.ensures.looks our_schema (inl refl))
+    same_reads (IsPlacedIn our_schema) (state g.S.Store c.args.conn.now) (state g.S.Store c.has_other_number.new.conn) c.has_other_number.result
+    _ c.from_residual.result _ c.in_err-is_other.field-0.0 (p.1 ∙ ap Err p.2) (c.has_other_number.ensures.looks our_schema (inl refl))
 
 pub returns-in_err-is_other-clause-cause : goal.returns-in_err-is_other-clause-cause
 returns-in_err-is_other-clause-cause g c =
     let p = err_from_is_err_and c.from_residual.result c.from_residual.ensures.1 in
-    λ clean here rows. same_fails (IsPlacedIn our_schema) (λ _. ⊤) (state g.S.Store c.args.conn.now) (state g.S.Store c.has_other_number.new.conn) c.has_other_number.result c.from_residual.result c.in_err-is_other.field-0.0 c.in_err-is_other.was (p.1 ∙ ap Err p.2) (c.has_other_number.ensures.cause our_schema (inl refl)) clean here tt
+    λ clean here rows. same_fails (IsPlacedIn our_schema) (λ _. ⊤) (state g.S.Store c.args.conn.now) (state g.S.Store c.has_other_number.new.conn) c.has_other_number.result
+    c.from_residual.result c.in_err-is_other.field-0.0 c.in_err-is_other.was (p.1 ∙ ap Err p.2) (c.has_other_number.ensures.cause our_schema (inl refl)) clean here tt
 
 pub returns-then-is_other-clause-looks : goal.returns-then-is_other-clause-looks
 returns-then-is_other-clause-looks g c =
-    looks_made (state g.S.Store c.args.conn.now) (state g.S.Store c.has_other_number.new.conn) c.in_ok-is_other.is_other (Other (state g.S.Store c.args.conn.now).now.trees) (Ok None) (AreFoundHere c.args.keep (state g.S.Store c.args.conn.now).now.trees)
+    looks_made (state g.S.Store c.args.conn.now) (state g.S.Store c.has_other_number.new.conn) c.in_ok-is_other.is_other
+    (Other (state g.S.Store c.args.conn.now).now.trees) (Ok None) (AreFoundHere c.args.keep (state g.S.Store c.args.conn.now).now.trees)
     (λ here other. inr (other c.if-is_other.true)) (c.in_ok-is_other.ensures.looks our_schema (inl refl))
 
 pub returns-clause-looks : goal.returns-clause-looks
 returns-clause-looks g c =
     let a = state g.S.Store c.args.conn.now in
-    looks_then a (state g.S.Store c.has_other_number.new.conn) (state g.S.Store c.find_all.new.conn) c.in_ok-is_other.is_other (Other a.now.trees) c.find_all.result (λ db t. AreAllFound c.args.keep db.trees t) (AreFoundHere c.args.keep a.now.trees)
+    looks_then a (state g.S.Store c.has_other_number.new.conn) (state g.S.Store c.find_all.new.conn) c.in_ok-is_other.is_other
+    (Other a.now.trees) c.find_all.result (λ db t. AreAllFound c.args.keep db.trees t) (AreFoundHere c.args.keep a.now.trees)
     (λ here t p q. found_here c.args.keep a.now.trees t q) (c.in_ok-is_other.ensures.looks our_schema (inl refl)) c.find_all.ensures.looks
 
 pub returns-clause-cause : goal.returns-clause-cause
 returns-clause-cause g c =
     let a = state g.S.Store c.args.conn.now in
     let b = state g.S.Store c.has_other_number.new.conn in
-    looks_fail a b (state g.S.Store c.find_all.new.conn) c.in_ok-is_other.is_other (Other a.now.trees) c.find_all.result (λ t. AreAllFound c.args.keep b.now.trees t) Asked Asked (c.in_ok-is_other.ensures.looks our_schema (inl refl)) c.find_all.ensures.looks
+    looks_fail a b (state g.S.Store c.find_all.new.conn) c.in_ok-is_other.is_other (Other a.now.trees) c.find_all.result
+    (λ t. AreAllFound c.args.keep b.now.trees t) Asked Asked (c.in_ok-is_other.ensures.looks our_schema (inl refl)) c.find_all.ensures.looks
     (λ t rows. rows) c.find_all.ensures.cause

@@ -17,7 +17,8 @@ here s ours taken = record { schema = ours; settled = taken.settled }
 
 pub returns-then-is_of : goal.returns-then-is_of
 returns-then-is_of g c = record {
-  opening = found_open c.args.whose (state g.S.Store c.args.conn.now) (state g.S.Store c.find.new.conn) c.args.keep c.in-Ok-Some.tables c.kept.result c.requires.ours (rw c.in-Ok-Some.field-0-is at c.in-Ok-Some.ensures.looks)
+  opening = found_open c.args.whose (state g.S.Store c.args.conn.now)
+      (state g.S.Store c.find.new.conn) c.args.keep c.in-Ok-Some.tables c.kept.result c.requires.ours (rw c.in-Ok-Some.field-0-is at c.in-Ok-Some.ensures.looks)
       (subst (λ (t : Tables). Suits c.args.whose t.meta) c.tables.view_is (c.if-is_of.ensures.same refl)) c.kept.ensures;
 }
 
@@ -48,5 +49,6 @@ returns-in-Err g c =
     record {
       opening = read_failed c.args.whose old new IsPlaced (here old c.requires.ours) c.in-Err.ensures.looks.0 c.in-Err.ensures.looks.1 c.refusal_of.result c.refusal_of.ensures.cause
           (λ taken. somebodys c.args.whose old.now.trees (inl (sound_as old our_schema taken c.requires.ours)))
-          (λ clean taken held. store_failed old new c.in-Err.error c.refusal_of.result c.refusal_of.ensures.memory (c.in-Err.ensures.cause clean (here old c.requires.ours taken) (rows_found old.now.trees held)));
+          (λ clean taken held. store_failed old new c.in-Err.error c.refusal_of.result c.refusal_of.ensures.memory
+          (c.in-Err.ensures.cause clean (here old c.requires.ours taken) (rows_found old.now.trees held)));
     }

@@ -32,17 +32,20 @@ returns-clause-reads g c =
     let old = state g.S.Store c.args.conn.now in
     let new = state g.S.Store c.rows_in.new.conn in
     reads_made old new c.in_ok-rows.rows (λ rows. ShownOf c.args.room.now old.now.trees rows.items) c.calendar.result _
-    (λ kept read. told_two c.calendar.result _ _ _ (λ out same sorted. calendar_is c.args.room.now c.args.day old.now.trees c.in_ok-rows.rows.items out.items (read kept.ours.held.booking) same sorted) c.calendar.ensures.same c.calendar.ensures.sorted)
+    (λ kept read. told_two c.calendar.result _ _ _ (λ out same sorted. calendar_is c.args.room.now c.args.day old.now.trees c.in_ok-rows.rows.items out.items
+    (read kept.ours.held.booking) same sorted) c.calendar.ensures.same c.calendar.ensures.sorted)
     (kept_looks old new (Ok c.in_ok-rows.rows) (λ rows. ShownOf c.args.room.now old.now.trees rows.items) c.in_ok-rows.ensures.looks)
 
 pub returns-in_err-rows-clause-failed : goal.returns-in_err-rows-clause-failed
 returns-in_err-rows-clause-failed g c =
     let p = err_from_is_err_and c.from_residual.result c.from_residual.ensures.1 in
-    same_alone (state g.S.Store c.args.conn.now) (state g.S.Store c.rows_in.new.conn) c.rows_in.result c.from_residual.result c.in_err-rows.field-0.0 c.in_err-rows.was (p.1 ∙ ap Err p.2) (alone (state g.S.Store c.args.conn.now) (state g.S.Store c.rows_in.new.conn) c.rows_in.result (λ clean here rows. c.rows_in.ensures.cause clean here rows.0.booking))
+    same_alone (state g.S.Store c.args.conn.now) (state g.S.Store c.rows_in.new.conn) c.rows_in.result c.from_residual.result c.in_err-rows.field-0.0 c.in_err-rows.was (p.1 ∙ ap Err p.2)
+    (alone (state g.S.Store c.args.conn.now) (state g.S.Store c.rows_in.new.conn) c.rows_in.result (λ clean here rows. c.rows_in.ensures.cause clean here rows.0.booking))
 
 pub returns-clause-failed : goal.returns-clause-failed
 returns-clause-failed g c =
     let old = state g.S.Store c.args.conn.now in
     let new = state g.S.Store c.rows_in.new.conn in
-    alone_made old new c.in_ok-rows.rows (λ rows. ShownOf c.args.room.now old.now.trees rows.items) c.calendar.result (kept_looks old new (Ok c.in_ok-rows.rows) (λ rows. ShownOf c.args.room.now old.now.trees rows.items) c.in_ok-rows.ensures.looks)
+    alone_made old new c.in_ok-rows.rows (λ rows. ShownOf c.args.room.now old.now.trees rows.items) c.calendar.result
+    (kept_looks old new (Ok c.in_ok-rows.rows) (λ rows. ShownOf c.args.room.now old.now.trees rows.items) c.in_ok-rows.ensures.looks)
     (λ r stands read. memory_alone c.calendar.result c.calendar.ensures.memory)

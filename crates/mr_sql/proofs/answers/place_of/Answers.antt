@@ -45,9 +45,11 @@ returns-in_err-others-clause-reads g c =
     let id = c.args.id in
     let read =
     reads_then a b d c.in_ok-rows.rows (λ rows. Found id a.now.trees rows.0 rows.1) c.rows_of-2.result (λ db rows. Taken id db.trees rows.0 rows.1) (λ _. Unit {0}) (λ _ _ _ _. tt)
-    (kept_looks a b (Ok c.in_ok-rows.rows) (λ rows. Found id a.now.trees rows.0 rows.1) c.in_ok-rows.ensures.looks) (kept_looks b d c.rows_of-2.result (λ rows. Taken id b.now.trees rows.0 rows.1) c.rows_of-2.ensures.looks) in
+    (kept_looks a b (Ok c.in_ok-rows.rows) (λ rows. Found id a.now.trees rows.0 rows.1) c.in_ok-rows.ensures.looks)
+    (kept_looks b d c.rows_of-2.result (λ rows. Taken id b.now.trees rows.0 rows.1) c.rows_of-2.ensures.looks) in
     let p = err_from_is_err_and c.from_residual-in_err-others.result c.from_residual-in_err-others.ensures.1 in
-    same_reads IsKept (state g.S.Store c.args.conn.now) (state g.S.Store c.rows_of-2.new.conn) c.rows_of-2.result _ c.from_residual-in_err-others.result _ c.in_err-others.field-0.0 (p.1 ∙ ap Err p.2) read
+    same_reads IsKept (state g.S.Store c.args.conn.now)
+    (state g.S.Store c.rows_of-2.new.conn) c.rows_of-2.result _ c.from_residual-in_err-others.result _ c.in_err-others.field-0.0 (p.1 ∙ ap Err p.2) read
 
 pub returns-clause-reads : goal.returns-clause-reads
 returns-clause-reads g c =
@@ -60,16 +62,19 @@ returns-clause-reads g c =
     let rows = c.in_ok-rows.rows in
     let others = c.in_ok-others.others in
     let read =
-    reads_then a b d rows (λ rows. Found id trees rows.0 rows.1) (Ok others) (λ db rows. Taken id db.trees rows.0 rows.1) (λ others. IsPlaceOf room id (tables_in trees) (chosen room rows.0 rows.1 (taken_in room others.0 others.1)))
+    reads_then a b d rows (λ rows. Found id trees rows.0 rows.1) (Ok others) (λ db rows. Taken id db.trees rows.0 rows.1)
+    (λ others. IsPlaceOf room id (tables_in trees) (chosen room rows.0 rows.1 (taken_in room others.0 others.1)))
     (λ kept others x y. chosen_is room id trees rows.0 rows.1 others.0 others.1 (x.0 kept.ours.held.booking) (x.1 kept.ours.held.errorlog) (y.0 kept.ours.held.cancelled) (y.1 kept.ours.held.cancels))
-    (kept_looks a b (Ok rows) (λ rows. Found id trees rows.0 rows.1) c.in_ok-rows.ensures.looks) (kept_looks b d (Ok others) (λ rows. Taken id b.now.trees rows.0 rows.1) c.in_ok-others.ensures.looks) in
+    (kept_looks a b (Ok rows) (λ rows. Found id trees rows.0 rows.1) c.in_ok-rows.ensures.looks)
+    (kept_looks b d (Ok others) (λ rows. Taken id b.now.trees rows.0 rows.1) c.in_ok-others.ensures.looks) in
     let same = c.choose.ensures ∙ ap (chosen room rows.0 rows.1) c.choose_taken-other.ensures in
     (read.0, read.1, λ clean kept. let told = read.2 clean kept in (told.0, subst (IsPlaceOf room id (tables_in trees)) (sym same) told.1))
 
 pub returns-in_err-rows-clause-failed : goal.returns-in_err-rows-clause-failed
 returns-in_err-rows-clause-failed g c =
     let p = err_from_is_err_and c.from_residual.result c.from_residual.ensures.1 in
-    same_alone (state g.S.Store c.args.conn.now) (state g.S.Store c.rows_of.new.conn) c.rows_of.result c.from_residual.result c.in_err-rows.field-0.0 c.in_err-rows.was (p.1 ∙ ap Err p.2) (alone (state g.S.Store c.args.conn.now) (state g.S.Store c.rows_of.new.conn) c.rows_of.result (λ clean here rows. c.rows_of.ensures.cause clean here (rows.0.booking, rows.0.errorlog)))
+    same_alone (state g.S.Store c.args.conn.now) (state g.S.Store c.rows_of.new.conn) c.rows_of.result c.from_residual.result c.in_err-rows.field-0.0 c.in_err-rows.was (p.1 ∙ ap Err p.2)
+    (alone (state g.S.Store c.args.conn.now) (state g.S.Store c.rows_of.new.conn) c.rows_of.result (λ clean here rows. c.rows_of.ensures.cause clean here (rows.0.booking, rows.0.errorlog)))
 
 pub returns-in_err-others-clause-failed : goal.returns-in_err-others-clause-failed
 returns-in_err-others-clause-failed g c =
@@ -77,5 +82,7 @@ returns-in_err-others-clause-failed g c =
     let b = state g.S.Store c.rows_of.new.conn in
     let d = state g.S.Store c.rows_of-2.new.conn in
     let p = err_from_is_err_and c.from_residual-in_err-others.result c.from_residual-in_err-others.ensures.1 in
-    same_alone (state g.S.Store c.args.conn.now) (state g.S.Store c.rows_of-2.new.conn) c.rows_of-2.result c.from_residual-in_err-others.result c.in_err-others.field-0.0 c.in_err-others.was (p.1 ∙ ap Err p.2) (alone_then a b d c.in_ok-rows.rows (λ rows. Found c.args.id a.now.trees rows.0 rows.1) c.rows_of-2.result (kept_looks a b (Ok c.in_ok-rows.rows) (λ rows. Found c.args.id a.now.trees rows.0 rows.1) c.in_ok-rows.ensures.looks) c.rows_of-2.ensures.looks.0
+    same_alone (state g.S.Store c.args.conn.now) (state g.S.Store c.rows_of-2.new.conn) c.rows_of-2.result c.from_residual-in_err-others.result c.in_err-others.field-0.0 c.in_err-others.was
+    (p.1 ∙ ap Err p.2) (alone_then a b d c.in_ok-rows.rows (λ rows. Found c.args.id a.now.trees rows.0 rows.1) c.rows_of-2.result
+    (kept_looks a b (Ok c.in_ok-rows.rows) (λ rows. Found c.args.id a.now.trees rows.0 rows.1) c.in_ok-rows.ensures.looks) c.rows_of-2.ensures.looks.0
     (alone b d c.rows_of-2.result (λ clean here rows. c.rows_of-2.ensures.cause clean here (rows.0.cancelled, rows.0.cancels))))

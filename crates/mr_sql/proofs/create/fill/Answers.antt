@@ -8,4 +8,5 @@ returns-clause-filled g c =
     let first = state g.S.Store c.create_first_tables.new.tx.conn.now in
     let rows = state g.S.Store c.create_second_rows.new.tx.conn.now in
     let last = state g.S.Store c.put_meta.new.tx.conn.now in
-    fills start first rows last c.args.row.now c.create_second_rows.ensures.survives c.put_meta.ensures.survives c.in_ok-create_first_tables.ensures.extended c.in_ok-create_second_rows.ensures.widened c.in_ok-put_meta.ensures.put.0
+    fills start first rows last c.args.row.now c.create_second_rows.ensures.survives c.put_meta.ensures.survives
+    c.in_ok-create_first_tables.ensures.extended c.in_ok-create_second_rows.ensures.widened c.in_ok-put_meta.ensures.put.0

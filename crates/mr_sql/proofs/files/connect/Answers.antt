@@ -9,6 +9,8 @@ pub returns-in-Ok : goal.returns-in-Ok
 returns-in-Ok g c = record {
   found = λ clean.
       let opened = c.in-Ok.ensures.opened clean in
-      let found = c.in-Ok.ensures.found clean in
-      (taken_found _ _ opened.0 opened.1 found.reads c.in-Ok.ensures.fresh.unlimited, subst (λ (db : Database). IsFoundIn (image_of g.D.Disk c.args.files) db.trees) (sym opened.0.clean) (found.holds, found.reads));
+      let found = c.in-Ok.ensures.found clean in (
+        taken_found _ _ opened.0 opened.1 found.reads c.in-Ok.ensures.fresh.unlimited,
+        subst (λ (db : Database). IsFoundIn (image_of g.D.Disk c.args.files) db.trees) (sym opened.0.clean) (found.holds, found.reads),
+      );
 }

@@ -24,7 +24,8 @@ pub returns-in_err-is_other : goal.returns-in_err-is_other
 returns-in_err-is_other g c =
     let p = err_from_is_err_and c.from_residual.result c.from_residual.ensures.1 in
     record {
-      looks = same_reads (IsPlacedIn first_schema) (state g.S.Store c.args.conn.now) (state g.S.Store c.has_other_number.new.conn) c.has_other_number.result _ c.from_residual.result _ c.in_err-is_other.field-0.0 (p.1 ∙ ap Err p.2) (c.has_other_number.ensures.looks first_schema (inr refl));
+      looks = same_reads (IsPlacedIn first_schema) (state g.S.Store c.args.conn.now) (state g.S.Store c.has_other_number.new.conn) c.has_other_number.result
+          _ c.from_residual.result _ c.in_err-is_other.field-0.0 (p.1 ∙ ap Err p.2) (c.has_other_number.ensures.looks first_schema (inr refl));
     }
 
 pub returns-then-is_other : goal.returns-then-is_other
@@ -39,6 +40,7 @@ pub returns : goal.returns
 returns g c =
     let a = state g.S.Store c.args.conn.now in
     record {
-      looks = looks_then a (state g.S.Store c.has_other_number.new.conn) (state g.S.Store c.find_first.new.conn) c.in_ok-is_other.is_other (Other a.now.trees) c.find_first.result (λ db m. AreFirstRows db.trees × IsMeta db.trees m) (IsFirstFound a.now.trees)
+      looks = looks_then a (state g.S.Store c.has_other_number.new.conn) (state g.S.Store c.find_first.new.conn) c.in_ok-is_other.is_other
+          (Other a.now.trees) c.find_first.result (λ db m. AreFirstRows db.trees × IsMeta db.trees m) (IsFirstFound a.now.trees)
           (λ here m p q. first_found a.now.trees m q) (c.in_ok-is_other.ensures.looks first_schema (inr refl)) c.find_first.ensures.looks;
     }

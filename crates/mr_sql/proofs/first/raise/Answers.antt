@@ -16,13 +16,15 @@ here s first taken = record { schema = first; settled = taken.settled }
 
 pub returns-in-Ok : goal.returns-in-Ok
 returns-in-Ok g c = record {
-  opening = raised c.args.whose (state g.S.Store c.args.conn.now) (state g.S.Store c.find_old.new.conn) (state g.S.Store c.move_up.new.conn) c.in-Ok-Some.meta c.requires.first (rw c.in-Ok-Some.field-0-is at c.in-Ok-Some.ensures.looks)
+  opening = raised c.args.whose (state g.S.Store c.args.conn.now) (state g.S.Store c.find_old.new.conn)
+      (state g.S.Store c.move_up.new.conn) c.in-Ok-Some.meta c.requires.first (rw c.in-Ok-Some.field-0-is at c.in-Ok-Some.ensures.looks)
       (c.is_of.ensures.same c.if-not-is_of.false) c.move_up.ensures.survives c.in-Ok.ensures.lasts c.in-Ok.ensures.moved;
 }
 
 pub returns-in-Err-move_up : goal.returns-in-Err-move_up
 returns-in-Err-move_up g c = record {
-  opening = not_raised c.args.whose (state g.S.Store c.args.conn.now) (state g.S.Store c.find_old.new.conn) (state g.S.Store c.move_up.new.conn) c.in-Ok-Some.meta c.requires.first (rw c.in-Ok-Some.field-0-is at c.in-Ok-Some.ensures.looks)
+  opening = not_raised c.args.whose (state g.S.Store c.args.conn.now) (state g.S.Store c.find_old.new.conn)
+      (state g.S.Store c.move_up.new.conn) c.in-Ok-Some.meta c.requires.first (rw c.in-Ok-Some.field-0-is at c.in-Ok-Some.ensures.looks)
       (c.is_of.ensures.same c.if-not-is_of.false) c.in-Err-move_up.error c.move_up.ensures.survives c.in-Err-move_up.ensures.moved c.refusal_of.result c.refusal_of.ensures.cause;
 }
 
@@ -49,7 +51,8 @@ pub returns-in-Err : goal.returns-in-Err
 returns-in-Err g c =
     let old = state g.S.Store c.args.conn.now in
     record {
-      opening = read_failed c.args.whose old (state g.S.Store c.find_old.new.conn) (IsPlacedIn first_schema) (here old c.requires.first) c.in-Err.ensures.looks.0 c.in-Err.ensures.looks.1 c.refusal_of-in-Err.result c.refusal_of-in-Err.ensures.cause
+      opening = read_failed c.args.whose old (state g.S.Store c.find_old.new.conn) (IsPlacedIn first_schema)
+          (here old c.requires.first) c.in-Err.ensures.looks.0 c.in-Err.ensures.looks.1 c.refusal_of-in-Err.result c.refusal_of-in-Err.ensures.cause
           (λ taken. somebodys c.args.whose old.now.trees (inr (sound_as old first_schema taken c.requires.first)))
           (λ clean taken held is. absurd (first_holds_none old taken c.requires.first held));
     }

@@ -12,7 +12,8 @@ use Rattle.mr_sql.proofs.load.load_desk.Goals as goal
 pub returns-in_err-tables-clause-reads : goal.returns-in_err-tables-clause-reads
 returns-in_err-tables-clause-reads g c =
     let p = err_from_is_err_and c.from_residual.result c.from_residual.ensures.1 in
-    same_reads IsKept (state g.S.Store c.args.conn.now) (state g.S.Store c.read_tables.new.conn) c.read_tables.result _ c.from_residual.result _ c.in_err-tables.field-0.0 (p.1 ∙ ap Err p.2) c.read_tables.ensures.reads
+    same_reads IsKept (state g.S.Store c.args.conn.now)
+    (state g.S.Store c.read_tables.new.conn) c.read_tables.result _ c.from_residual.result _ c.in_err-tables.field-0.0 (p.1 ∙ ap Err p.2) c.read_tables.ensures.reads
 
 pub returns-clause-reads : goal.returns-clause-reads
 returns-clause-reads g c =
@@ -24,7 +25,8 @@ returns-clause-reads g c =
 pub returns-in_err-tables-clause-failed : goal.returns-in_err-tables-clause-failed
 returns-in_err-tables-clause-failed g c =
     let p = err_from_is_err_and c.from_residual.result c.from_residual.ensures.1 in
-    same_alone (state g.S.Store c.args.conn.now) (state g.S.Store c.read_tables.new.conn) c.read_tables.result c.from_residual.result c.in_err-tables.field-0.0 c.in_err-tables.was (p.1 ∙ ap Err p.2) (alone (state g.S.Store c.args.conn.now) (state g.S.Store c.read_tables.new.conn) c.read_tables.result c.read_tables.ensures.cause)
+    same_alone (state g.S.Store c.args.conn.now) (state g.S.Store c.read_tables.new.conn) c.read_tables.result c.from_residual.result c.in_err-tables.field-0.0 c.in_err-tables.was
+    (p.1 ∙ ap Err p.2) (alone (state g.S.Store c.args.conn.now) (state g.S.Store c.read_tables.new.conn) c.read_tables.result c.read_tables.ensures.cause)
 
 pub returns-clause-failed : goal.returns-clause-failed
 returns-clause-failed g c =

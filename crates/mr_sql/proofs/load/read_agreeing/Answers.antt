@@ -16,7 +16,8 @@ use Rattle.mr_sql.proofs.load.read_agreeing.Goals as goal
 pub returns-in_err-tables-clause-reads : goal.returns-in_err-tables-clause-reads
 returns-in_err-tables-clause-reads g c =
     let p = err_from_is_err_and c.from_residual.result c.from_residual.ensures.1 in
-    same_reads IsInUse (state g.S.Store c.args.conn.now) (state g.S.Store c.all_tables.new.conn) c.all_tables.result _ c.from_residual.result _ c.in_err-tables.field-0.0 (p.1 ∙ ap Err p.2) c.all_tables.ensures.reads
+    same_reads IsInUse (state g.S.Store c.args.conn.now)
+    (state g.S.Store c.all_tables.new.conn) c.all_tables.result _ c.from_residual.result _ c.in_err-tables.field-0.0 (p.1 ∙ ap Err p.2) c.all_tables.ensures.reads
 
 pub returns-clause-reads : goal.returns-clause-reads
 returns-clause-reads g c =
@@ -28,7 +29,8 @@ returns-clause-reads g c =
 pub returns-in_err-tables-clause-failed : goal.returns-in_err-tables-clause-failed
 returns-in_err-tables-clause-failed g c =
     let p = err_from_is_err_and c.from_residual.result c.from_residual.ensures.1 in
-    same_alone (state g.S.Store c.args.conn.now) (state g.S.Store c.all_tables.new.conn) c.all_tables.result c.from_residual.result c.in_err-tables.field-0.0 c.in_err-tables.was (p.1 ∙ ap Err p.2) c.all_tables.ensures.failed
+    same_alone (state g.S.Store c.args.conn.now) (state g.S.Store c.all_tables.new.conn) c.all_tables.result c.from_residual.result c.in_err-tables.field-0.0 c.in_err-tables.was
+    (p.1 ∙ ap Err p.2) c.all_tables.ensures.failed
 
 pub returns-clause-failed : goal.returns-clause-failed
 returns-clause-failed g c =

@@ -18,7 +18,8 @@ returns c =
     record {
       headline = (
         _,
-        headline_kept _ _ (map command_seen c.args.commands.now) (map reply_of c.in_ok-replies.replies.items) (opening c.args.server c.args.primary) stands (c.in_ok-replies.ensures.serves clean opened),
+        headline_kept _ _ (map command_seen c.args.commands.now) (map reply_of c.in_ok-replies.replies.items)
+            (opening c.args.server c.args.primary) stands (c.in_ok-replies.ensures.serves clean opened),
       );
       cause = tt;
     }

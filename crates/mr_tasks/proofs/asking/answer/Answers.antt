@@ -17,7 +17,8 @@ pub returns-clause-told : goal.returns-clause-told
 returns-clause-told g c = (
   reply_of c.ask-reply.result,
   c.ask-reply.ensures,
-  subst (λ file. TellsToFile file c.args.files.now c.write_reply.new.files (reply_of c.ask-reply.result) (g.W.Write.contents c.args.out.now) (g.W.Write.contents c.write_reply.new.out) c.write_reply.result)
+  subst (λ file. TellsToFile file c.args.files.now c.write_reply.new.files (reply_of c.ask-reply.result)
+      (g.W.Write.contents c.args.out.now) (g.W.Write.contents c.write_reply.new.out) c.write_reply.result)
       (sym c.in-Some.is) (c.write_reply.ensures.told, c.write_reply.ensures.kept),
 )
 

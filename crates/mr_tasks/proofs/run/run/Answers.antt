@@ -20,5 +20,6 @@ pub returns-in-Ok-clause-stopped : goal.returns-in-Ok-clause-stopped
 returns-in-Ok-clause-stopped g c = λ refused.
     let all = c.in-Ok.ensures.runs empty_world c.new-world.ensures in
     let told = c.print_all.ensures.stopped refused in
-    let P : List StepReply → Type 0 = λ rs. Appends (g.W.Write.contents c.args.out.now) (g.W.Write.contents c.print_all.new.out) (flat_map step_reply_text (take told.0 (map step_reply_of rs)) ++ no_memory_line) in
+    let P : List StepReply
+    → Type 0 = λ rs. Appends (g.W.Write.contents c.args.out.now) (g.W.Write.contents c.print_all.new.out) (flat_map step_reply_text (take told.0 (map step_reply_of rs)) ++ no_memory_line) in
     inr (record { replies = map step_reply_of c.in-Ok.replies.items; world = all.0; number = told.0; taken = all.1; told = subst P c.as_slice.ensures.value told.1 })

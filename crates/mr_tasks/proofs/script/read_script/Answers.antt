@@ -29,7 +29,8 @@ pub returns-in-Bad : goal.returns-in-Bad
 returns-in-Bad c =
     let at = line_turn (script_lines c.args.bytes.now)
     (YieldsList-at c.into_iter-index-iterator.ensures.into_iter_gives
-    (YieldsList-from_enumerate (YieldsList-at c.enumerate-index-items.ensures.source (YieldsList-from_slice_split _ (λ b. b == 10) c.args.bytes.now c.split.ensures.rest c.split.ensures.done c.split.ensures.closure (λ x r q k. search (rules, tests))))
+    (YieldsList-from_enumerate (YieldsList-at c.enumerate-index-items.ensures.source
+    (YieldsList-from_slice_split _ (λ b. b == 10) c.args.bytes.now c.split.ensures.rest c.split.ensures.done c.split.ensures.closure (λ x r q k. search (rules, tests))))
     c.enumerate-index-items.ensures.count))
     c.loop-index.yielded _ c.loop-index.yielded_by _ _ (c.in-Some.index, c.in-Some.line) c.in-Some.is c.next.ensures.steps in
     ends_at_bad (script_lines c.args.bytes.now) (texts_of (numbered c.loop-index.yielded)) (map step_of c.loop-index.steps.items) c.in-Some.line.now
@@ -39,7 +40,8 @@ pub returns : goal.returns
 returns c =
     let all = lines_end (script_lines c.args.bytes.now)
     (YieldsList-at c.into_iter-index-iterator.ensures.into_iter_gives
-    (YieldsList-from_enumerate (YieldsList-at c.enumerate-index-items.ensures.source (YieldsList-from_slice_split _ (λ b. b == 10) c.args.bytes.now c.split.ensures.rest c.split.ensures.done c.split.ensures.closure (λ x r q k. search (rules, tests))))
+    (YieldsList-from_enumerate (YieldsList-at c.enumerate-index-items.ensures.source
+    (YieldsList-from_slice_split _ (λ b. b == 10) c.args.bytes.now c.split.ensures.rest c.split.ensures.done c.split.ensures.closure (λ x r q k. search (rules, tests))))
     c.enumerate-index-items.ensures.count))
     c.loop-index.yielded _ c.loop-index.yielded_by _ _ c.in-None.is c.next.ensures.steps in
     subst (λ (ls : List (List ℕ)). AreStepsOf ls (map step_of c.loop-index.steps.items)) all c.loop-index.invariant

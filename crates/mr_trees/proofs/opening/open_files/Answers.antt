@@ -39,7 +39,8 @@ returns-clause-found g c clean =
         (state it).committed,
         schema_of it,
         subst (λ (w : List Wanted). Describes w c.args.schema.now) (sym c.in_ok-store.ensures.schema) c.in-Ok-new.ensures.schema,
-        subst (λ (n : ℕ). Recovers n (seen_image g.D.Disk c.args.files.log c.args.files.db) (state it).committed) size (subst (λ (i : Image). Recovers (state_of fresh).page_size i (state it).committed) image (c.in_ok-store.ensures.found up)),
+        subst (λ (n : ℕ). Recovers n (seen_image g.D.Disk c.args.files.log c.args.files.db) (state it).committed) size
+            (subst (λ (i : Image). Recovers (state_of fresh).page_size i (state it).committed) image (c.in_ok-store.ensures.found up)),
         read_from it c.in_ok-store.ensures.ready up ∙ ap (λ n. file_trees n (schema_of it) (state it).committed) wide,
       ),
     )

@@ -18,4 +18,5 @@ returns-in-None-clause-ok g c =
     let once : IsClean (g.S.Store.view c.row_with.new.store) = omega (arith, c.logged_at.ensures.quiet.clean, clean) in
     let none = booking_shown c.args.room.now c.args.id (g.S.Store.view c.args.store.now).trees ∙ c.in_ok-row.ensures.ok once ∙ c.in-None.is in
     let same = ap (λ (v : View). v.trees) (c.in_ok-row.ensures.same once) in
-    subst (λ (trees : Trees). find_booking c.args.room.now c.args.id (tables_shown trees) ≡ None → IsPlaceOf c.args.room.now c.args.id (tables_shown trees) row) same (told clean) none) c.logged_at.ensures.ok
+    subst (λ (trees : Trees). find_booking c.args.room.now c.args.id (tables_shown trees) ≡ None
+    → IsPlaceOf c.args.room.now c.args.id (tables_shown trees) row) same (told clean) none) c.logged_at.ensures.ok

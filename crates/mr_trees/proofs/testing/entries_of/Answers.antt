@@ -9,5 +9,6 @@ rows-init g c = record {
   there = search rules;
   reads = search rules;
   quiet = search rules;
-  stored = λ clean all. subst (AllByRecursion (IsStoredAs g.R.StoredRow.form)) (begun (g.S.Store.view c.args.store.now) (g.S.Store.view c.seek.new.self) _ c.tree.result g.R.StoredRow.form.table.tree _ c.new-row.ensures c.tree.ensures (c.in_ok-seek.ensures.ok clean)) all;
+  stored = λ clean all. subst (AllByRecursion (IsStoredAs g.R.StoredRow.form))
+      (begun (g.S.Store.view c.args.store.now) (g.S.Store.view c.seek.new.self) _ c.tree.result g.R.StoredRow.form.table.tree _ c.new-row.ensures c.tree.ensures (c.in_ok-seek.ensures.ok clean)) all;
 }

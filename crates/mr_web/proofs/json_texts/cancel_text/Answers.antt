@@ -7,4 +7,5 @@ use Rattle.mr_web.proofs.json_texts.cancel_text.Goals as goal
 pub returns : goal.returns
 returns c =
     let value = c.in_ok-value.ensures in
-    IfOk-weaker c.to_string.result _ _ (λ s h. h (ap has_float value) ∙ ap compact_text value ∙ cancel_text c.args.id.now c.args.mark.now c.args.state.now c.args.target.now c.requires.id c.requires.mark c.requires.state c.requires.target) c.to_string.ensures.text
+    IfOk-weaker c.to_string.result _ _ (λ s h. h (ap has_float value) ∙ ap compact_text value
+    ∙ cancel_text c.args.id.now c.args.mark.now c.args.state.now c.args.target.now c.requires.id c.requires.mark c.requires.state c.requires.target) c.to_string.ensures.text

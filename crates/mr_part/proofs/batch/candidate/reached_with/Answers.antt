@@ -17,7 +17,8 @@ pub returns-in_err-take_all-clause-takes : goal.returns-in_err-take_all-clause-t
 returns-in_err-take_all-clause-takes c = λ a inside sound good short covers summary rooms kept.
     let x = err_from_is_err_and c.from_residual-in_err-take_all.result c.from_residual-in_err-take_all.ensures.1 in
     let shows = c.in_ok-candidate.ensures.begins a inside sound summary kept in
-    subst (TakenPicked a inside (take_items (map item_of c.args.items.now) 2 (Ok (nothing_taken a)))) (sym (x.1 ∙ ap Err x.2)) (items-failed a inside (map item_of c.args.items.now) (nothing_taken a) c.take_all.new.self c.in_err-take_all.field-0.0 (c.in_err-take_all.ensures.takes a inside (nothing_taken a) sound good short covers shows))
+    subst (TakenPicked a inside (take_items (map item_of c.args.items.now) 2 (Ok (nothing_taken a)))) (sym (x.1 ∙ ap Err x.2)) (items-failed a inside (map item_of c.args.items.now)
+    (nothing_taken a) c.take_all.new.self c.in_err-take_all.field-0.0 (c.in_err-take_all.ensures.takes a inside (nothing_taken a) sound good short covers shows))
 
 pub returns-in_err-reached-clause-takes : goal.returns-in_err-reached-clause-takes
 returns-in_err-reached-clause-takes c = λ a inside sound good short covers summary rooms kept.

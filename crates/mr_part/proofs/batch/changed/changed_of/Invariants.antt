@@ -11,5 +11,6 @@ invariant-loop-write l = record {
   count : l.k ≡ length l.yielded;
   as_many : length l.changed.writes.items ≡ length l.changed.undo.items;
   changed : (before place : Write → Place) → l.was ≡ map (undo_with before) l.fn.writes.items → l.rows ≡ map (undo_with place) l.fn.writes.items
-      → (l.changed.writes.items ≡ picked l.news (is_elsewhere l.old before place) l.yielded) × (l.changed.undo.items ≡ map (undo_with place) (picked l.news (is_elsewhere l.old before place) l.yielded));
+      → (l.changed.writes.items ≡ picked l.news (is_elsewhere l.old before place) l.yielded)
+      × (l.changed.undo.items ≡ map (undo_with place) (picked l.news (is_elsewhere l.old before place) l.yielded));
 }

@@ -21,7 +21,8 @@ loop-row-preserved c = λ name.
     let old = has_room c.loop-row.rooms name in
     let new = c.add_if_named.new.rooms in
     let here = drop_more rows k row c.loop-row-test.true ∙ ap (λ x. x ∷ drop (k + 1) rows) (sym c.row-item.is) in
-    let added = c.in_ok-add_if_named.ensures.rooms name ∙ (λ t. (has_id c.args.ids.now (c.id.ensures t) && bytes_eq name c.write.inside.room) || old) ∙ ap (λ (w : Write). (has_id c.args.ids.now (id_of row.write) && bytes_eq name w.room) || old) c.write.view_is in
+    let added = c.in_ok-add_if_named.ensures.rooms name ∙ (λ t. (has_id c.args.ids.now (c.id.ensures t) && bytes_eq name c.write.inside.room) || old)
+    ∙ ap (λ (w : Write). (has_id c.args.ids.now (id_of row.write) && bytes_eq name w.room) || old) c.write.view_is in
     added_more (has_room new name) old (is_its row.write) (list_any its (drop (k + 1) rows)) all added
     (subst (λ left. (old || list_any its left) ≡ all) here (c.loop-row.invariant name))
 

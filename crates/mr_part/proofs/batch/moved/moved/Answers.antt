@@ -32,12 +32,14 @@ returns-clause-turns c = λ items a b moves.
     let over = c.over-board.ensures in
     let here = c.deref-2.ensures.value in
     let replayed = c.in_ok-undo.ensures.board ∙ (λ t. executed_all (undone_all (over t) us) (here t)) in
-    let undo = c.deref-6.ensures.value ∙ c.in_ok-undo.ensures.rows ∙ (λ t. undo_rows_of (undone_all (over t) us) (here t)) ∙ part_rows old board items a b s rooms us ws c.args.anew.undo.items moves after replayed in
+    let undo = c.deref-6.ensures.value ∙ c.in_ok-undo.ensures.rows ∙ (λ t. undo_rows_of (undone_all (over t) us) (here t))
+    ∙ part_rows old board items a b s rooms us ws c.args.anew.undo.items moves after replayed in
     let (writes, rows) = c.in_ok-changed.ensures.changed (held_place a) (place_of b) (c.deref-5.ensures.value ∙ moves.was_are) undo in
     let put = c.deref-7.ensures.value ∙ writes in
     let put_rows = c.deref-8.ensures.value ∙ rows in
     let aimed = c.deref-3.ensures.value in
-    let ends = λ (w : Write) (h : Has w c.deref-3.result.now). part_ends old board items a b s rooms us ws c.args.anew.undo.items moves after replayed w (subst (λ (vs : List Write). Has w vs) aimed h) in
+    let ends = λ (w : Write) (h : Has w c.deref-3.result.now).
+    part_ends old board items a b s rooms us ws c.args.anew.undo.items moves after replayed w (subst (λ (vs : List Write). Has w vs) aimed h) in
     let by = c.deref-4.ensures.value ∙ c.in_ok-by.ensures.takers ∙ ap (map (taken_by board)) (c.deref.ensures.value ∙ sym aimed) in
     let targets = c.in_ok-targets.ensures.rows board ends by ∙ ap (moved_targets s.tallies board after) aimed in
     part_moved old board items a b s rooms us ws c.args.anew.undo.items moves after replayed c.saturating_sub-news.result c.put_places.new.change c.saturating_sub-news.ensures

@@ -11,7 +11,8 @@ loop-k-preserved c = λ old ends was.
     let k = c.loop-k.k in
     let w = c.index-writes-k.result in
     let low : k < length ws = omega (arith, c.loop-k-test.true, c.min-count.ensures) in
-    targets_more c.args.summary.now.tallies old c.args.board.now ws c.args.was.now k w c.index-was-k.result (map place_row_of c.loop-k.rows.items) (map place_row_of c.push_if_moved.new.rows.items) low c.index-writes-k.is c.index-was-k.is was
+    targets_more c.args.summary.now.tallies old c.args.board.now ws c.args.was.now k w c.index-was-k.result
+    (map place_row_of c.loop-k.rows.items) (map place_row_of c.push_if_moved.new.rows.items) low c.index-writes-k.is c.index-was-k.is was
     (c.loop-k.invariant old ends was) (c.in_ok-push_if_moved.ensures.rows (ends w (has_at ws k w low c.index-writes-k.is)))
 
 pub returns-clause-rows : goal.returns-clause-rows

@@ -21,7 +21,13 @@ pub returns-in_err-push_commits-clause-only : goal.returns-in_err-push_commits-c
 returns-in_err-push_commits-clause-only c = λ low few.
     let x = err_from_is_err_and c.from_residual.result c.from_residual.ensures.1 in
     let top : c.position.inside.commits ≤ 999999999999 =
-    few_asked (record { version = version_of c.position.inside.version; server = c.position.inside.server; primary = c.position.inside.primary; commits = c.position.inside.commits; counts = counts_of_pairs c.position.inside.counts.items }) c.position.invariant in
+    few_asked (record {
+      version = version_of c.position.inside.version;
+      server = c.position.inside.server;
+      primary = c.position.inside.primary;
+      commits = c.position.inside.commits;
+      counts = counts_of_pairs c.position.inside.counts.items;
+    }) c.position.invariant in
     let is : c.position.inside.commits ≡ c.args.position.now.commits = ap (λ (p : Position). p.commits) c.position.view_is in
     let rest = c.split_at-2.ensures.back_len in
     let front = c.split_at.ensures.front_len in
@@ -47,7 +53,9 @@ returns-clause-items c =
     let first = subst (λ n. Offers n [] c.new-outgoing.result.items.items c.new-outgoing.result.more) (sym c.new-outgoing.ensures.limit) c.new-outgoing.ensures.items in
     let second = c.in_ok-push_commits.ensures.items [] first in
     let lines = committed_items p (c.position.inside.commits + 1) (row_writes c.split_at-2.result.1.now) in
-    let third = c.in_ok-push_lacked.ensures.items lines (subst (λ n. Offers n lines c.push_commits.new.self.items.items c.push_commits.new.self.more) (sym c.in_ok-push_commits.ensures.limit) second) in
+    let third = c.in_ok-push_lacked.ensures.items lines
+    (subst (λ n. Offers n lines c.push_commits.new.self.items.items c.push_commits.new.self.more) (sym c.in_ok-push_commits.ensures.limit) second) in
     subst (λ xs. Offers c.args.limit xs c.push_lacked.new.self.items.items c.push_lacked.new.self.more)
     (λ t. committed_items p (commits t + 1) (unknown t) ++ lacked_items p (tentative t))
-    (subst (λ n. Offers n (lines ++ lacked_items p (row_writes c.split_at.result.1.now)) c.push_lacked.new.self.items.items c.push_lacked.new.self.more) (c.in_ok-push_commits.ensures.limit ∙ c.new-outgoing.ensures.limit) third)
+    (subst (λ n. Offers n (lines ++ lacked_items p (row_writes c.split_at.result.1.now)) c.push_lacked.new.self.items.items c.push_lacked.new.self.more)
+    (c.in_ok-push_commits.ensures.limit ∙ c.new-outgoing.ensures.limit) third)

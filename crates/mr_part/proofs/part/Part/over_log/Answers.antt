@@ -15,7 +15,8 @@ pub returns-clause-part : goal.returns-clause-part
 returns-clause-part c = λ a h e log.
     let commits = c.args.commits in
     let (numbers, rooms) = c.in_ok-summary.ensures.rows a h e in
-    let first : c.known_in-first.result ≡ min (commits - a.dropped) (length a.commits - a.dropped) = c.known_in-first.ensures ∙ ap (λ (s : Summary). min (commits - s.dropped) (s.commits - s.dropped)) numbers in
+    let first : c.known_in-first.result ≡ min (commits - a.dropped) (length a.commits - a.dropped) = c.known_in-first.ensures
+    ∙ ap (λ (s : Summary). min (commits - s.dropped) (s.commits - s.dropped)) numbers in
     let kept = c.behind.ensures ∙ ap (drop c.known_in-first.result) log ∙ above_seen a commits c.known_in-first.result h first in
     let board = c.all.ensures ∙ c.new.ensures.value in
     λ i. record { summary = numbers i; rooms = rooms i; kept = kept i; board = board i }

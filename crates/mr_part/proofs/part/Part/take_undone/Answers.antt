@@ -26,7 +26,8 @@ returns-in_err-reached-clause-step c = λ good short a sound part moving undone.
     let items = map item_of c.args.items.now in
     let e = c.self.view_is ∙ part in
     part_refused a items c.from_residual-in_err-reached.result c.in_err-reached.field-0.0 (x.1 ∙ ap Err x.2)
-    (c.in_err-reached.ensures.takes a (is_inside a items) sound good short (λ w h. h) (ap (λ (v : PartView). v.summary) e) (c.deref.ensures.value ∙ ap (λ (v : PartView). v.rooms) e) (c.in_ok-kept.ensures.rows ∙ ap (λ (v : PartView). v.kept) e))
+    (c.in_err-reached.ensures.takes a (is_inside a items) sound good short (λ w h. h) (ap (λ (v : PartView). v.summary) e)
+    (c.deref.ensures.value ∙ ap (λ (v : PartView). v.rooms) e) (c.in_ok-kept.ensures.rows ∙ ap (λ (v : PartView). v.kept) e))
 
 pub returns-in_err-anew-clause-step : goal.returns-in_err-anew-clause-step
 returns-in_err-anew-clause-step c = λ good short a sound part moving undone.
@@ -46,7 +47,8 @@ returns-clause-step c = λ good short a sound part moving undone.
     let items = map item_of c.args.items.now in
     let e = c.self.view_is ∙ part in
     let reached = c.in_ok-reached.reached in
-    let (p, exact, shows) = c.in_ok-reached.ensures.takes a (is_inside a items) sound good short (λ w h. h) (ap (λ (v : PartView). v.summary) e) (c.deref.ensures.value ∙ ap (λ (v : PartView). v.rooms) e) (c.in_ok-kept.ensures.rows ∙ ap (λ (v : PartView). v.kept) e) in
+    let (p, exact, shows) = c.in_ok-reached.ensures.takes a (is_inside a items) sound good short (λ w h. h) (ap (λ (v : PartView). v.summary) e)
+    (c.deref.ensures.value ∙ ap (λ (v : PartView). v.rooms) e) (c.in_ok-kept.ensures.rows ∙ ap (λ (v : PartView). v.kept) e) in
     let b = p.replica in
     let view = c.reached.view_is in
     let m = batches_move_touched_rooms items 2 (nothing_taken a) p sound (all_within items good) exact in
@@ -54,7 +56,15 @@ returns-clause-step c = λ good short a sound part moving undone.
     let touched = moving.touched in
     let had = c.self.inside.summary.commits in
     let rows = c.reached.inside.kept.items in
-    let shown : ShowsMoves a b items (is_inside a items) touched had rows = record { sound = sound; moves = m; are_touched = moving.are_touched; commits_are = ap (λ (v : PartView). v.summary.commits) e; covers = λ w h. h; kept_are = ap (λ (v : ReachedView). v.kept) view ∙ shows.kept; marks = shows.marks } in
+    let shown : ShowsMoves a b items (is_inside a items) touched had rows = record {
+      sound = sound;
+      moves = m;
+      are_touched = moving.are_touched;
+      commits_are = ap (λ (v : PartView). v.summary.commits) e;
+      covers = λ w h. h;
+      kept_are = ap (λ (v : ReachedView). v.kept) view ∙ shows.kept;
+      marks = shows.marks;
+    } in
     let picked = c.in_ok-anew.ensures.anew touched items moves in
     let anew = picked.0 ∙ again_picked a b items (is_inside a items) touched had rows shown in
     let was = picked.1 ∙ undos_picked a b items (is_inside a items) touched had rows shown ∙ ap (map (undo_with (held_place a))) (sym picked.0) in

@@ -46,4 +46,7 @@ returns-then-number-self-2-clause-step c = λ a sound part.
     let few = c.if-number-self-2.true in
     let low : n ≤ a.dropped = omega (arith, few, dropped) in
     let step = truncate_none a n own late low in
-    inl (ap DroppedIs dropped ∙ ap (λ (x : After). x.reply) (sym step), c.no_change-change.ensures (tables_of a) (sym (ap (λ (v : PartView). meta_of v.summary) e)) ∙ ap (λ (x : After). tables_of x.replica) (sym step))
+    inl (
+      ap DroppedIs dropped ∙ ap (λ (x : After). x.reply) (sym step),
+      c.no_change-change.ensures (tables_of a) (sym (ap (λ (v : PartView). meta_of v.summary) e)) ∙ ap (λ (x : After). tables_of x.replica) (sym step),
+    )

@@ -20,7 +20,8 @@ loop-row-preserved c = λ name.
     let old = has_room c.loop-row.rooms name in
     let new = c.add_if_named.new.rooms in
     let here = drop_more rows k row c.loop-row-test.true ∙ ap (λ x. x ∷ drop (k + 1) rows) (sym c.row-item.is) in
-    let added = c.in_ok-add_if_named.ensures.rooms name ∙ (λ t. (has_id c.args.ids.now (c.id.ensures t) && bytes_eq name c.row.inside.room) || old) ∙ ap (λ (r : LogRow). (has_id c.args.ids.now (log_id row) && bytes_eq name r.room) || old) c.row.view_is in
+    let added = c.in_ok-add_if_named.ensures.rooms name ∙ (λ t. (has_id c.args.ids.now (c.id.ensures t) && bytes_eq name c.row.inside.room) || old)
+    ∙ ap (λ (r : LogRow). (has_id c.args.ids.now (log_id row) && bytes_eq name r.room) || old) c.row.view_is in
     added_more (has_room new name) old (is_its row) (list_any is_its (drop (k + 1) rows)) all added
     (subst (λ left. (old || list_any is_its left) ≡ all) here (c.loop-row.invariant name))
 
@@ -30,4 +31,5 @@ returns-clause-rooms c = λ name.
     let is_its = λ (row : LogRow). has_id c.args.ids.now (log_id row) && bytes_eq name row.room in
     let had = has_room c.loop-row.rooms name in
     sym (or-false had)
-    ∙ subst (λ left. (had || left) ≡ (has_room c.args.rooms.now name || list_any is_its rows)) (at_drop_all (list_any is_its) rows c.loop-row.row-index c.loop-row-test.false) (c.loop-row.invariant name)
+    ∙ subst (λ left. (had || left) ≡ (has_room c.args.rooms.now name || list_any is_its rows))
+    (at_drop_all (list_any is_its) rows c.loop-row.row-index c.loop-row-test.false) (c.loop-row.invariant name)

@@ -27,7 +27,8 @@ loop-row-preserved c =
                 ∙ ap (λ rs. put_entries (map error_entry rs) c.loop-row.board) w.from_ref.ensures.value
                 ∙ (λ i. insert_entry id_cmp (c.loop-row.invariant.0 i) (error_entry row).0 (error_entry row).1)
                 ∙ put_passed test error_entry rows k row c.args.board.now c.loop-row-test.true c.row-item.is passed,
-            all_passed limits test rows k row c.loop-row.invariant.1 (subst (λ (rs : List ErrorRow). AllByRecursion (λ r. IsRowWithin r.n r.start r.stop) rs) w.from_ref.ensures.value w.in_ok-put_errors.ensures.within).0 c.loop-row-test.true c.row-item.is passed,
+            all_passed limits test rows k row c.loop-row.invariant.1 (subst (λ (rs : List ErrorRow). AllByRecursion (λ r. IsRowWithin r.n r.start r.stop) rs)
+                w.from_ref.ensures.value w.in_ok-put_errors.ensures.within).0 c.loop-row-test.true c.row-item.is passed,
           ))
       | else-has_error w ↦
           (let over : test row ≡ false = sym c.has_error.ensures ∙ w.if-has_error.false in (

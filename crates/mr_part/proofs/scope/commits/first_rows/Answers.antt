@@ -19,8 +19,10 @@ loop-k-preserved c =
     let here : drop (length rows - (k + 1)) rows ≡ row ∷ rest =
     drop_more rows (length rows - (k + 1)) row (omega (arith, low))
     ∙ (λ i. (ap (λ n. Rattle.std.proofs.Common.get_or rows n row) (sym at) ∙ sym c.index-rows-rows.is) i ∷ ap (λ n. drop n rows) next i) in
-    let put = λ (e : is_tentative row ≡ true). ap (λ rs. take c.args.count (by_stamp (filter is_tentative rs))) here ∙ ap (λ rs. take c.args.count (by_stamp rs)) (cond-true (is_tentative row) (row ∷ filter is_tentative rest) (filter is_tentative rest) e) in
-    let left = λ (e : is_tentative row ≡ false). ap (λ rs. take c.args.count (by_stamp (filter is_tentative rs))) here ∙ ap (λ rs. take c.args.count (by_stamp rs)) (cond-false (is_tentative row) (row ∷ filter is_tentative rest) (filter is_tentative rest) e) in
+    let put = λ (e : is_tentative row ≡ true). ap (λ rs. take c.args.count (by_stamp (filter is_tentative rs))) here
+    ∙ ap (λ rs. take c.args.count (by_stamp rs)) (cond-true (is_tentative row) (row ∷ filter is_tentative rest) (filter is_tentative rest) e) in
+    let left = λ (e : is_tentative row ≡ false). ap (λ rs. take c.args.count (by_stamp (filter is_tentative rs))) here
+    ∙ ap (λ rs. take c.args.count (by_stamp rs)) (cond-false (is_tentative row) (row ∷ filter is_tentative rest) (filter is_tentative rest) e) in
     elim c.if-is_tentative.branch [
       | then-is_tentative+in_ok-put_row w ↦
           (ap (λ v. map (λ r. r.now) v.items) w.first-is ∙ ap (map (λ r. r.now)) w.truncate.ensures.items

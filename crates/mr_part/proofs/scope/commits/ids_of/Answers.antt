@@ -25,7 +25,8 @@ loop-row-preserved c = λ id.
     let new = c.insert.new.self in
     let here = ap (map (λ r. r.now)) (drop_more rows k row c.loop-row-test.true ∙ ap (λ x. x ∷ drop (k + 1) rows) (sym c.row-item.is)) in
     added_more (has_id new id) (has_id old id) (same_id id (log_id row.now)) (among id rest) (among id (map (λ r. r.now) rows))
-    (id_more old new (log_id row.now) id (subst (λ (i : Id). Updates id_cmp old new i true) c.id.ensures c.in_ok-insert.ensures.updates) ∙ ap (λ b. b || has_id old id) (same_id_comm (log_id row.now) id))
+    (id_more old new (log_id row.now) id (subst (λ (i : Id). Updates id_cmp old new i true) c.id.ensures c.in_ok-insert.ensures.updates)
+    ∙ ap (λ b. b || has_id old id) (same_id_comm (log_id row.now) id))
     (subst (λ left. (has_id old id || among id left) ≡ among id (map (λ r. r.now) rows)) here (c.loop-row.invariant id))
 
 pub returns-clause-ids : goal.returns-clause-ids

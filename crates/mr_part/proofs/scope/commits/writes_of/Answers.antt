@@ -11,7 +11,8 @@ returns-in_err-kept_row-clause-only c = λ xs ok e.
     let rows = c.args.rows.now in
     let row = c.row-item.result in
     let here = ap (map (λ r. r.now)) (drop_more rows c.loop-row.row-index row c.loop-row-test.true ∙ ap (λ r. r ∷ drop (c.loop-row.row-index + 1) rows) (sym c.row-item.is)) in
-    let left = first_left log_row_of xs c.loop-row.writes.items row.now (map (λ r. r.now) (drop (c.loop-row.row-index + 1) rows)) (subst (IsDone log_row_of xs c.loop-row.writes.items) here (c.loop-row.invariant xs ok e)) in
+    let left = first_left log_row_of xs c.loop-row.writes.items row.now (map (λ r. r.now) (drop (c.loop-row.row-index + 1) rows))
+    (subst (IsDone log_row_of xs c.loop-row.writes.items) here (c.loop-row.invariant xs ok e)) in
     let only = never_refused left.first c.in_err-kept_row.field-0.0 (row_read xs left.first row.now (Err c.in_err-kept_row.field-0.0) ok left.has left.row_is c.in_err-kept_row.ensures.read) in
     search (rules, only)
 

@@ -19,7 +19,8 @@ returns-then-not-do_numbers_agree-clause-only c = λ a h e.
     let numbers = c.summary_of-summary.ensures a h (same_meta s t (tables_of a) e) (same_vector s t (tables_of a) e) in
     elim c.then-not-do_numbers_agree.branch [
       | then-not-do_numbers_agree-via-then-not-do_numbers_agree w ↦ absurd (true≢false (sym agrees ∙ sym c.do_numbers_agree.ensures ∙ w.if-not-do_numbers_agree.true))
-      | then-not-do_numbers_agree-via-else-not-do_numbers_agree+then-not-is_within w ↦ absurd (true≢false (sym (w.is_within.ensures.1 (subst IsWithin (sym numbers) (numbers_within a h))) ∙ w.if-not-is_within.true))
+      | then-not-do_numbers_agree-via-else-not-do_numbers_agree+then-not-is_within w ↦ absurd
+          (true≢false (sym (w.is_within.ensures.1 (subst IsWithin (sym numbers) (numbers_within a h))) ∙ w.if-not-is_within.true))
     ]
 
 pub returns-in_err-copies_of-in-Ok-clause-only : goal.returns-in_err-copies_of-in-Ok-clause-only

@@ -11,10 +11,12 @@ use Rattle.mr_replica.proofs.desk.Desk.add_room.Goals as goal
 
 pub returns-in-Ok-clause-step : goal.returns-in-Ok-clause-step
 returns-in-Ok-clause-step c =
-    turned (Nothing) (λ a. add_room a c.args.room.now) (λ _ (x : ChangeView). RoomAdded) (λ (x : ChangeView). x) c.in-Ok.part c.args.self.now c.changed_so.new.self c.add_room.result c.changed_so.result (room_step c.args.room.now) c.in-Ok.ensures.part c.add_room.ensures.step c.changed_so.ensures.made c.changed_so.ensures.err c.changed_so.ensures.only
+    turned (Nothing) (λ a. add_room a c.args.room.now) (λ _ (x : ChangeView). RoomAdded) (λ (x : ChangeView). x) c.in-Ok.part c.args.self.now c.changed_so.new.self c.add_room.result
+    c.changed_so.result (room_step c.args.room.now) c.in-Ok.ensures.part c.add_room.ensures.step c.changed_so.ensures.made c.changed_so.ensures.err c.changed_so.ensures.only
 
 pub returns-in-Err-clause-step : goal.returns-in-Err-clause-step
-returns-in-Err-clause-step c = unmade (λ a. add_room a c.args.room.now) (λ _ (x : ChangeView). RoomAdded) c.args.self.now c.args.self.now c.in-Err.refusal (λ _. c.args.self.now) (λ a h. c.in-Err.ensures.only a h)
+returns-in-Err-clause-step c =
+    unmade (λ a. add_room a c.args.room.now) (λ _ (x : ChangeView). RoomAdded) c.args.self.now c.args.self.now c.in-Err.refusal (λ _. c.args.self.now) (λ a h. c.in-Err.ensures.only a h)
 
 pub returns-in-Ok-clause-own : goal.returns-in-Ok-clause-own
 returns-in-Ok-clause-own c = λ a h. c.changed_so.ensures.own c.add_room.ensures.own

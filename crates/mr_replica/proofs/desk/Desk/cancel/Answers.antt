@@ -14,10 +14,14 @@ use Rattle.mr_replica.proofs.desk.Desk.cancel.Goals as goal
 
 pub returns-in-Ok-clause-step : goal.returns-in-Ok-clause-step
 returns-in-Ok-clause-step c =
-    turned (OfTarget c.args.target) (cancel_request c.args.room c.args.target) (λ a (done : Id × ChangeView). outcome_at_room c.args.room a done.0) (λ (done : Id × ChangeView). done.1) c.in-Ok.part c.args.self.now c.changed_by.new.self c.cancel.result c.changed_by.result (cancel_step c.args.room c.args.target c.as_str.ensures.is_name (subst (λ (id : Id). IsTrue (is_id id)) c.target.view_is c.target.invariant)) c.in-Ok.ensures.part c.cancel.ensures.step c.changed_by.ensures.made c.changed_by.ensures.err c.changed_by.ensures.only
+    turned (OfTarget c.args.target) (cancel_request c.args.room c.args.target) (λ a (done : Id × ChangeView). outcome_at_room c.args.room a done.0)
+    (λ (done : Id × ChangeView). done.1) c.in-Ok.part c.args.self.now c.changed_by.new.self c.cancel.result c.changed_by.result
+    (cancel_step c.args.room c.args.target c.as_str.ensures.is_name (subst (λ (id : Id). IsTrue (is_id id)) c.target.view_is c.target.invariant))
+    c.in-Ok.ensures.part c.cancel.ensures.step c.changed_by.ensures.made c.changed_by.ensures.err c.changed_by.ensures.only
 
 pub returns-in-Err-clause-step : goal.returns-in-Err-clause-step
-returns-in-Err-clause-step c = unmade (cancel_request c.args.room c.args.target) (λ a (done : Id × ChangeView). outcome_at_room c.args.room a done.0) c.args.self.now c.args.self.now c.in-Err.refusal (λ _. c.args.self.now) (λ a h. c.in-Err.ensures.only a h)
+returns-in-Err-clause-step c = unmade (cancel_request c.args.room c.args.target)
+    (λ a (done : Id × ChangeView). outcome_at_room c.args.room a done.0) c.args.self.now c.args.self.now c.in-Err.refusal (λ _. c.args.self.now) (λ a h. c.in-Err.ensures.only a h)
 
 pub returns-in-Ok-clause-own : goal.returns-in-Ok-clause-own
 returns-in-Ok-clause-own c = λ a h. c.changed_by.ensures.own c.cancel.ensures.own

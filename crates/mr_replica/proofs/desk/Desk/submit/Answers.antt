@@ -21,10 +21,13 @@ returns-in-Ok-clause-step c =
     let from : IsPartFrom c.args.self.now (InRoom c.args.request.room) c.in-Ok.part =
     λ a h. subst (λ (q : Request). IsPartOf c.in-Ok.part (InRoom q.room) a) c.request.view_is (c.in-Ok.ensures.part a h)
     in
-    turned (InRoom c.args.request.room) (submit_request c.args.request) (λ a (done : Id × ChangeView). outcome_in c.args.request a done.0) (λ (done : Id × ChangeView). done.1) c.in-Ok.part c.args.self.now c.changed_by.new.self c.submit.result c.changed_by.result (submit_step c.args.request good) from c.submit.ensures.step c.changed_by.ensures.made c.changed_by.ensures.err c.changed_by.ensures.only
+    turned (InRoom c.args.request.room) (submit_request c.args.request) (λ a (done : Id × ChangeView). outcome_in c.args.request a done.0)
+    (λ (done : Id × ChangeView). done.1) c.in-Ok.part c.args.self.now c.changed_by.new.self c.submit.result c.changed_by.result
+    (submit_step c.args.request good) from c.submit.ensures.step c.changed_by.ensures.made c.changed_by.ensures.err c.changed_by.ensures.only
 
 pub returns-in-Err-clause-step : goal.returns-in-Err-clause-step
-returns-in-Err-clause-step c = unmade (submit_request c.args.request) (λ a (done : Id × ChangeView). outcome_in c.args.request a done.0) c.args.self.now c.args.self.now c.in-Err.refusal (λ _. c.args.self.now) (λ a h. c.in-Err.ensures.only a h)
+returns-in-Err-clause-step c = unmade (submit_request c.args.request)
+    (λ a (done : Id × ChangeView). outcome_in c.args.request a done.0) c.args.self.now c.args.self.now c.in-Err.refusal (λ _. c.args.self.now) (λ a h. c.in-Err.ensures.only a h)
 
 pub returns-in-Ok-clause-own : goal.returns-in-Ok-clause-own
 returns-in-Ok-clause-own c = λ a h. c.changed_by.ensures.own c.submit.ensures.own

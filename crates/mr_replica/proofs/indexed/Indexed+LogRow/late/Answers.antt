@@ -24,7 +24,8 @@ returns-then-is_empty c =
     let none : list_any (is_new_commit known) items ≡ false = no_commit known items touched.committed.keys c.in-Ok.ensures.touched.committed (c.is_empty.ensures.0 c.if-is_empty.true) in
     c.in_ok-put_each.ensures
     ∙ ap (put_all id_before log_id rows) c.new-late.ensures
-    ∙ puts_first log_id (is_late_row known items) all rows c.late_in.ensures.order (late_written known items touched.rooms c.tail_of.result all rows none c.tail_of.ensures c.in-Ok.ensures.touched.rooms c.in_ok-late_in.ensures.those)
+    ∙ puts_first log_id (is_late_row known items) all rows c.late_in.ensures.order
+    (late_written known items touched.rooms c.tail_of.result all rows none c.tail_of.ensures c.in-Ok.ensures.touched.rooms c.in_ok-late_in.ensures.those)
 
 pub of-requires : goal.of-requires
 of-requires c =
@@ -39,7 +40,8 @@ returns c =
     let items = map item_of c.args.items.now in
     let all = c.args.self.now.rows in
     let touched = c.in-Ok.touched in
-    let some : list_any (is_new_commit known) items ≡ true = some_commit known items touched.committed.keys c.in-Ok.ensures.touched.committed (λ none. true≢false (sym (c.is_empty.ensures.1 none) ∙ c.if-is_empty.false)) in
+    let some : list_any (is_new_commit known) items ≡ true =
+    some_commit known items touched.committed.keys c.in-Ok.ensures.touched.committed (λ none. true≢false (sym (c.is_empty.ensures.1 none) ∙ c.if-is_empty.false)) in
     subst (λ rs. IfOk c.of.result (λ late. late.rows ≡ rs))
     (c.in_ok-ranged.ensures ∙ (λ t. filter (λ r. is_between (c.log_end.ensures t) (c.log_end-2.ensures t) (log_key r)) all) ∙ (λ t. filter (λ r. late_all known items some r t) all))
     c.of.ensures

@@ -7,7 +7,7 @@ use Rattle.std.specs.Str.{bytes_eq}
 use Rattle.mr_replay.specs.Seen.{has_room}
 use Rattle.mr_part.specs.declared.tail.Tail.TheVariants.{Nothing}
 use Rattle.mr_replica.specs.Needed.{is_late_in}
-use Rattle.mr_replica.specs.RowKeys.{key_cmp, log_key, tail_end, AreBetween, AreThose}
+use Rattle.mr_replica.specs.RowKeys.{row_key_cmp, log_key, tail_end, AreBetween, AreThose}
 use Rattle.mr_replica.proofs.LateRows.{late_first, late_in_room, late_last, late_next}
 use Rattle.mr_replica.proofs.LogEnds.{tail_forward}
 use Rattle.mr_replica.proofs.NamedRows.{those_both, those_same}
@@ -23,7 +23,7 @@ loop-room-init c = (
 
 pub between-requires : goal.between-requires
 between-requires c =
-    (λ t. is_gt (key_cmp (c.tail_end-first.ensures t) (c.tail_end-last.ensures t)))
+    (λ t. is_gt (row_key_cmp (c.tail_end-first.ensures t) (c.tail_end-last.ensures t)))
     ∙ tail_forward c.in-Some.room.now c.args.tail.now
 
 pub loop-room-preserved : goal.loop-room-preserved
@@ -35,7 +35,8 @@ loop-room-preserved c =
     let rows = c.loop-room.rows.items in
     let found = c.in_ok-found.found.items in
     let between : AreBetween log_key (tail_end room tail) (tail_end room Nothing) all found =
-    subst (λ k. AreBetween log_key (tail_end room tail) k all found) c.tail_end-last.ensures (subst (λ k. AreBetween log_key k c.tail_end-last.result all found) c.tail_end-first.ensures c.in_ok-found.ensures.found) in
+    subst (λ k. AreBetween log_key (tail_end room tail) k all found) c.tail_end-last.ensures
+    (subst (λ k. AreBetween log_key k c.tail_end-last.result all found) c.tail_end-first.ensures c.in_ok-found.ensures.found) in
     let kept : c.retain.new.self.items ≡ filter (λ r. bytes_eq r.room room) found = filter_same _ (λ r. bytes_eq r.room room) _ (λ x b f k. search rules) _ _ c.retain.ensures.filtered in
     let (q, those, tells) = c.loop-room.invariant in (
       λ r. q r || is_late_in (λ name. bytes_eq name room) tail r,

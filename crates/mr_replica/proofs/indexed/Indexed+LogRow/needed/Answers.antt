@@ -12,7 +12,9 @@ use Rattle.mr_replica.proofs.NamedRows.{none_picked}
 use Rattle.mr_replica.proofs.indexed.Indexed+LogRow.needed.Goals as goal
 
 -- the scope has no rows of the log
-none_needed : {A B : Type 0} (known : ℕ) (all : List LogRow) (s : Scope) (f : A → Scope) (g : B → Scope) → ((x : A) → filter (is_log_needed known (scope_of (f x))) all ≡ []) → ((x : B) → filter (is_log_needed known (scope_of (g x))) all ≡ []) → (s ≡ Nothing) ⊎ (((x : A) × (s ≡ f x)) ⊎ ((x : B) × (s ≡ g x))) → filter (is_log_needed known (scope_of s)) all ≡ []
+none_needed : {A B : Type 0} (known : ℕ) (all : List LogRow) (s : Scope) (f : A → Scope) (g : B → Scope)
+    → ((x : A) → filter (is_log_needed known (scope_of (f x))) all ≡ []) → ((x : B) → filter (is_log_needed known (scope_of (g x))) all ≡ [])
+    → (s ≡ Nothing) ⊎ (((x : A) × (s ≡ f x)) ⊎ ((x : B) × (s ≡ g x))) → filter (is_log_needed known (scope_of s)) all ≡ []
 none_needed known all s f g p q (inl e) = ap (λ s. filter (is_log_needed known (scope_of s)) all) e ∙ none_picked all
 none_needed known all s f g p q (inr (inl (x, e))) = ap (λ s. filter (is_log_needed known (scope_of s)) all) e ∙ p x
 none_needed known all s f g p q (inr (inr (x, e))) = ap (λ s. filter (is_log_needed known (scope_of s)) all) e ∙ q x
@@ -26,19 +28,22 @@ pub returns-in-NextCommits : goal.returns-in-NextCommits
 returns-in-NextCommits c =
     let all = c.args.self.now.rows in
     subst (λ rs. IfOk c.ranged.result (λ rows. rows.items ≡ rs))
-    ((λ t. filter (λ r. is_between (c.log_end.ensures t) (c.log_end-in-NextCommits.ensures t) (log_key r)) all) ∙ (λ t. filter (λ r. commits_between r t) all) ∙ ap (λ s. filter (is_log_needed c.args.known (scope_of s)) all) (sym c.in-NextCommits.is))
+    ((λ t. filter (λ r. is_between (c.log_end.ensures t) (c.log_end-in-NextCommits.ensures t) (log_key r)) all)
+    ∙ (λ t. filter (λ r. commits_between r t) all) ∙ ap (λ s. filter (is_log_needed c.args.known (scope_of s)) all) (sym c.in-NextCommits.is))
     c.ranged.ensures
 
 pub returns-in-UpTo : goal.returns-in-UpTo
 returns-in-UpTo c =
     let all = c.args.self.now.rows in
     subst (λ rs. IfOk c.ranged-in-UpTo.result (λ rows. rows.items ≡ rs))
-    ((λ t. filter (λ r. is_between (c.log_end-in-UpTo.ensures t) (c.number_end.ensures t) (log_key r)) all) ∙ (λ t. filter (λ r. up_to_between c.in-UpTo.number r t) all) ∙ ap (λ s. filter (is_log_needed c.args.known (scope_of s)) all) (sym c.in-UpTo.is))
+    ((λ t. filter (λ r. is_between (c.log_end-in-UpTo.ensures t) (c.number_end.ensures t) (log_key r)) all)
+    ∙ (λ t. filter (λ r. up_to_between c.in-UpTo.number r t) all) ∙ ap (λ s. filter (is_log_needed c.args.known (scope_of s)) all) (sym c.in-UpTo.is))
     c.ranged-in-UpTo.ensures
 
 pub returns-in-Above : goal.returns-in-Above
 returns-in-Above c =
     let all = c.args.self.now.rows in
     subst (λ rs. IfOk c.ranged-in-Above.result (λ rows. rows.items ≡ rs))
-    ((λ t. filter (λ r. is_between (c.number_end-in-Above.ensures t) (c.log_end-in-Above.ensures t) (log_key r)) all) ∙ (λ t. filter (λ r. above_between c.in-Above.commits r t) all) ∙ ap (λ s. filter (is_log_needed c.args.known (scope_of s)) all) (sym c.in-Above.is))
+    ((λ t. filter (λ r. is_between (c.number_end-in-Above.ensures t) (c.log_end-in-Above.ensures t) (log_key r)) all)
+    ∙ (λ t. filter (λ r. above_between c.in-Above.commits r t) all) ∙ ap (λ s. filter (is_log_needed c.args.known (scope_of s)) all) (sym c.in-Above.is))
     c.ranged-in-Above.ensures

@@ -6,7 +6,7 @@ use Rattle.mr_base.specs.declared.refusals.Refusal.TheVariants.{OutOfMemory}
 use Rattle.mr_part.specs.NextId.{id_given}
 use Rattle.mr_part.specs.Parts.{PartView, IsPartOf}
 use Rattle.mr_part.specs.ScopeOf.{scope_of}
-use Rattle.mr_replica.specs.Taken.{is_taken}
+use Rattle.mr_replica.specs.Taken.{is_id_taken}
 use Rattle.mr_replica.proofs.NextIds.{given_free}
 use Rattle.mr_replica.proofs.memory.Memory.load_part.Goals as goal
 
@@ -21,6 +21,6 @@ returns-then-is_taken-clause-only c = λ a h.
     let scope = scope_of c.args.scope.now in
     let t = c.args.self.now in
     let part : IsPartOf c.in_ok-part.part scope a = c.in_ok-part.ensures.loaded a h in
-    let free : is_taken (id_given scope c.in_ok-part.part.summary) t ≡ false =
-    subst (λ s. is_taken (id_given scope s) t ≡ false) (sym (ap (λ (p : PartView). p.summary) part)) (given_free scope t a h) in
-    absurd (true≢false (sym c.if-is_taken.true ∙ c.is_taken.ensures ∙ ap (λ id. is_taken id t) c.id_given.ensures ∙ free))
+    let free : is_id_taken (id_given scope c.in_ok-part.part.summary) t ≡ false =
+    subst (λ s. is_id_taken (id_given scope s) t ≡ false) (sym (ap (λ (p : PartView). p.summary) part)) (given_free scope t a h) in
+    absurd (true≢false (sym c.if-is_taken.true ∙ c.is_taken.ensures ∙ ap (λ id. is_id_taken id t) c.id_given.ensures ∙ free))

@@ -11,7 +11,8 @@ use Rattle.mr_replica.proofs.ScopeRows.{commits_scope, up_to_scope, above_scope}
 use Rattle.mr_replica.proofs.memory.Memory.rows_for.Goals as goal
 
 -- the tables that are made for a scope have in it what all tables have
-told : {E : Type 0} (given scope : Scope) (t : Tables) (made : Result Tables E) (rows : Scope → Tables) → given ≡ scope → in_scope (scope_of scope) (rows scope) ≡ in_scope (scope_of scope) t → IfOk made (λ u. u ≡ rows given) → IfOk made (λ u. in_scope (scope_of given) u ≡ in_scope (scope_of given) t)
+told : {E : Type 0} (given scope : Scope) (t : Tables) (made : Result Tables E) (rows : Scope → Tables) → given ≡ scope → in_scope (scope_of scope) (rows scope)
+    ≡ in_scope (scope_of scope) t → IfOk made (λ u. u ≡ rows given) → IfOk made (λ u. in_scope (scope_of given) u ≡ in_scope (scope_of given) t)
 told given scope t made rows is same h =
     IfOk-weaker made (λ u. u ≡ rows given) (λ u. in_scope (scope_of given) u ≡ in_scope (scope_of given) t)
     (λ u e. ap (in_scope (scope_of given)) e ∙ subst (λ s. in_scope (scope_of s) (rows s) ≡ in_scope (scope_of s) t) (sym is) same) h
@@ -20,7 +21,8 @@ pub returns-in-NextCommits : goal.returns-in-NextCommits
 returns-in-NextCommits c =
     let t = c.args.self.now in
     let n = c.in-NextCommits.field-0 in
-    told c.args.scope.now (NextCommits n) t c.rows_to_commit.result (λ s. with_rows t (filter (is_log_needed t.meta.commits (scope_of s)) t.log) [] [] t.cancelled) c.in-NextCommits.is (commits_scope t n) c.rows_to_commit.ensures
+    told c.args.scope.now (NextCommits n) t c.rows_to_commit.result
+    (λ s. with_rows t (filter (is_log_needed t.meta.commits (scope_of s)) t.log) [] [] t.cancelled) c.in-NextCommits.is (commits_scope t n) c.rows_to_commit.ensures
 
 pub returns-in-UpTo : goal.returns-in-UpTo
 returns-in-UpTo c =
@@ -32,4 +34,5 @@ pub returns-in-Above : goal.returns-in-Above
 returns-in-Above c =
     let t = c.args.self.now in
     let n = c.in-Above.field-0 in
-    told c.args.scope.now (Above n) t c.rows_of_log-in-Above.result (λ s. with_rows t (filter (is_log_needed t.meta.commits (scope_of s)) t.log) [] [] []) c.in-Above.is (above_scope t n) c.rows_of_log-in-Above.ensures
+    told c.args.scope.now (Above n) t c.rows_of_log-in-Above.result
+    (λ s. with_rows t (filter (is_log_needed t.meta.commits (scope_of s)) t.log) [] [] []) c.in-Above.is (above_scope t n) c.rows_of_log-in-Above.ensures

@@ -9,7 +9,8 @@ returns-then-has g c =
     let b = g.B.Cells.columns in
     let has = sym c.if-has.true ∙ c.has.ensures in
     rw (take_columns c.args.at a.width b.width c.args.row.now, drop_columns c.args.at a.width b.width c.args.row.now)
-    (c.has-then-has.ensures ∙ ap (λ k. b.are (columns_from (c.args.at + k) b.width c.args.row.now)) c.width.ensures ∙ ap (λ p. p && b.are (columns_from (c.args.at + a.width) b.width c.args.row.now)) has)
+    (c.has-then-has.ensures ∙ ap (λ k. b.are (columns_from (c.args.at + k) b.width c.args.row.now)) c.width.ensures
+    ∙ ap (λ p. p && b.are (columns_from (c.args.at + a.width) b.width c.args.row.now)) has)
 
 pub returns-else-has : goal.returns-else-has
 returns-else-has g c =

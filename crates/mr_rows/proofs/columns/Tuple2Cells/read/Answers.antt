@@ -8,14 +8,16 @@ pub returns-in_err-first-clause-refused : goal.returns-in_err-first-clause-refus
 returns-in_err-first-clause-refused g c =
     let a = g.A.Cells.columns in
     let b = g.B.Cells.columns in
-    rw (take_columns c.args.at a.width b.width c.args.row.now, drop_columns c.args.at a.width b.width c.args.row.now) (let never = fails_first (b.are (columns_from (c.args.at + a.width) b.width c.args.row.now)) in search rules)
+    rw (take_columns c.args.at a.width b.width c.args.row.now, drop_columns c.args.at a.width b.width c.args.row.now)
+    (let never = fails_first (b.are (columns_from (c.args.at + a.width) b.width c.args.row.now)) in search rules)
 
 pub returns-in_err-second-clause-refused : goal.returns-in_err-second-clause-refused
 returns-in_err-second-clause-refused g c =
     let a = g.A.Cells.columns in
     let b = g.B.Cells.columns in
     let read = rw (c.width.ensures) at c.in_err-second.ensures.refused in
-    rw (take_columns c.args.at a.width b.width c.args.row.now, drop_columns c.args.at a.width b.width c.args.row.now) (let never = fails_second (a.are (columns_from c.args.at a.width c.args.row.now)) in search rules)
+    rw (take_columns c.args.at a.width b.width c.args.row.now, drop_columns c.args.at a.width b.width c.args.row.now)
+    (let never = fails_second (a.are (columns_from c.args.at a.width c.args.row.now)) in search rules)
 
 pub returns-clause-value : goal.returns-clause-value
 returns-clause-value g c =

@@ -7,4 +7,6 @@ use Rattle.mr_rows.proofs.slot_rows.ErrorRowStoredRow.texts.Goals as goal
 
 pub returns : goal.returns
 unfolding understood everything error_facts error_facts_first
-returns c = let told = two_told error_facts ((refl, (refl, refl)), refl) refl refl (refl, (refl, refl)) error_facts_first ((refl, (refl, refl)), refl) refl refl (refl, (refl, refl)) in record { asks = told.0; puts = told.1 }
+returns c =
+    let told = two_told error_facts ((refl, (refl, refl)), refl) refl refl (refl, (refl, refl)) error_facts_first ((refl, (refl, refl)), refl) refl refl (refl, (refl, refl)) in
+    record { asks = told.0; puts = told.1 }

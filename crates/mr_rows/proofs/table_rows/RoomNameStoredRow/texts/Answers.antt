@@ -7,4 +7,6 @@ use Rattle.mr_rows.proofs.table_rows.RoomNameStoredRow.texts.Goals as goal
 
 pub returns : goal.returns
 unfolding understood everything room_facts room_facts_first
-returns c = let told = two_told room_facts ((refl, (refl, refl)), refl) refl refl (refl, (refl, refl)) room_facts_first ((refl, (refl, refl)), refl) refl refl (refl, (refl, refl)) in record { asks = told.0; puts = told.1 }
+returns c =
+    let told = two_told room_facts ((refl, (refl, refl)), refl) refl refl (refl, (refl, refl)) room_facts_first ((refl, (refl, refl)), refl) refl refl (refl, (refl, refl)) in
+    record { asks = told.0; puts = told.1 }

@@ -7,4 +7,6 @@ use Rattle.mr_rows.proofs.table_rows.VectorRowStoredRow.texts.Goals as goal
 
 pub returns : goal.returns
 unfolding understood everything vector_facts vector_facts_first
-returns c = let told = two_told vector_facts ((refl, (refl, refl)), refl) refl refl (refl, (refl, refl)) vector_facts_first ((refl, (refl, refl)), refl) refl refl (refl, (refl, refl)) in record { asks = told.0; puts = told.1 }
+returns c =
+    let told = two_told vector_facts ((refl, (refl, refl)), refl) refl refl (refl, (refl, refl)) vector_facts_first ((refl, (refl, refl)), refl) refl refl (refl, (refl, refl)) in
+    record { asks = told.0; puts = told.1 }

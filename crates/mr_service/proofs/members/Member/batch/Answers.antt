@@ -11,8 +11,10 @@ returns-clause-stays c = λ r h.
 
 pub returns-clause-text : goal.returns-clause-text
 returns-clause-text c = λ r h.
-    batch_texts c.args.self.now c.ask-reply.new.self (reply_of c.ask-reply.result) c.args.position.items c.args.max_lines (λ v. v.items) c.batch_in.result c.ask-reply.ensures c.batch_in.ensures.text r h
+    batch_texts c.args.self.now c.ask-reply.new.self (reply_of c.ask-reply.result) c.args.position.items c.args.max_lines
+    (λ v. v.items) c.batch_in.result c.ask-reply.ensures c.batch_in.ensures.text r h
 
 pub returns-clause-refused : goal.returns-clause-refused
 returns-clause-refused c = λ r h.
-    batch_refusals c.args.self.now c.ask-reply.new.self (reply_of c.ask-reply.result) c.args.position.items c.args.max_lines refusal_of c.batch_in.result c.ask-reply.ensures c.batch_in.ensures.refused r h
+    batch_refusals c.args.self.now c.ask-reply.new.self
+    (reply_of c.ask-reply.result) c.args.position.items c.args.max_lines refusal_of c.batch_in.result c.ask-reply.ensures c.batch_in.ensures.refused r h

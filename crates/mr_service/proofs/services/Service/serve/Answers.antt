@@ -14,5 +14,6 @@ returns-in-Local-clause-served g c =
 pub returns-in-Receive-clause-served : goal.returns-in-Receive-clause-served
 returns-in-Receive-clause-served g c =
     subst (λ k. IsServed g.K.Keeper k c.receive.new.keeper (command_seen c.args.command.now) (reply_of c.said-in-Receive.result)) c.self.view_is
-    (subst (λ (l : Command). IsServed g.K.Keeper c.self.inside.keeper c.receive.new.keeper l (reply_of c.said-in-Receive.result)) (ap Receive c.as_slice.ensures.value ∙ ap command_seen (sym c.in-Receive.is))
+    (subst (λ (l : Command). IsServed g.K.Keeper c.self.inside.keeper c.receive.new.keeper l (reply_of c.said-in-Receive.result))
+    (ap Receive c.as_slice.ensures.value ∙ ap command_seen (sym c.in-Receive.is))
     (subst (λ (r : Reply). IsServed g.K.Keeper c.self.inside.keeper c.receive.new.keeper (Receive c.as_slice.result.now) r) (sym c.said-in-Receive.ensures) c.receive.ensures.served))

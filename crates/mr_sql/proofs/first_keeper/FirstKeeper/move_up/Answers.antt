@@ -34,4 +34,5 @@ returns-in-Err-clause-crash g c =
       | inl before ↦ inl before
       | inr moves ↦ inr (raised_to old.now.trees trees (moves (c.self.invariant (clean_before c.in-Err.ensures.survives clean) was_open)))
     ] in
-    subst (λ (h : Held g.row.S.Denot). HasCleanDisk new → IsTrue (state g.S.Store h).is_open → (trees : Trees) → new.may_leave trees → (state g.S.Store h).may_leave trees ⊎ IsRaised (state g.S.Store h).now.trees trees) c.self.view_is whole
+    subst (λ (h : Held g.row.S.Denot). HasCleanDisk new → IsTrue (state g.S.Store h).is_open → (trees : Trees) → new.may_leave trees
+    → (state g.S.Store h).may_leave trees ⊎ IsRaised (state g.S.Store h).now.trees trees) c.self.view_is whole

@@ -16,5 +16,6 @@ returns-in-Err-clause-quiet g c = refused_call g.S.Store c.args.self.now c.confi
 
 pub returns-in-Ok-clause-loaded : goal.returns-in-Ok-clause-loaded
 returns-in-Ok-clause-loaded g c =
-    then_told g.S.Store (λ t. (a : Replica) → Stands t a → IfOk c.load_open.result (λ desk. StandsFor desk a)) c.args.self.now c.confirm.new.self c.load_open.new.self tt c.load_open.result c.in-Ok.ensures.quiet c.load_open.ensures.quiet
+    then_told g.S.Store (λ t. (a : Replica) → Stands t a → IfOk c.load_open.result (λ desk. StandsFor desk a)) c.args.self.now
+    c.confirm.new.self c.load_open.new.self tt c.load_open.result c.in-Ok.ensures.quiet c.load_open.ensures.quiet
     c.load_open.ensures.loaded

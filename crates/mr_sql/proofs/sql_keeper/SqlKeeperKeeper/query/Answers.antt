@@ -14,5 +14,6 @@ returns-in-Err-clause-quiet g c = refused_call g.S.Store c.args.self.now c.confi
 
 pub returns-in-Ok-clause-answers : goal.returns-in-Ok-clause-answers
 returns-in-Ok-clause-answers g c =
-    then_told g.S.Store (λ t. IfOk c.query_open.result (IsAnswerTo c.args.question.now t)) c.args.self.now c.confirm.new.self c.query_open.new.self tt c.query_open.result c.in-Ok.ensures.quiet c.query_open.ensures.quiet
+    then_told g.S.Store (λ t. IfOk c.query_open.result (IsAnswerTo c.args.question.now t)) c.args.self.now
+    c.confirm.new.self c.query_open.new.self tt c.query_open.result c.in-Ok.ensures.quiet c.query_open.ensures.quiet
     c.query_open.ensures.answers

@@ -5,7 +5,7 @@ use Rattle.mr_part.specs.NextId.{id_given}
 use Rattle.mr_part.specs.Parts.{IsPartOf}
 use Rattle.mr_part.specs.ScopeOf.{scope_of}
 use Rattle.mr_tables.specs.Summary.{IsWithin}
-use Rattle.mr_replica.specs.Taken.{is_taken}
+use Rattle.mr_replica.specs.Taken.{is_id_taken}
 use Rattle.mr_store.specs.KeeperCalls.{failures_after}
 use Rattle.mr_store.specs.KeeperLists.{ListsView}
 use Rattle.mr_store.proofs.Told.{passed_on, quiet_lists}
@@ -26,9 +26,10 @@ returns-clause-loaded c = λ clean opens a h.
 
 pub returns-clause-free : goal.returns-clause-free
 returns-clause-free c = λ clean opens.
-    subst (λ t. IfOk c.counted.result (λ part. is_taken (id_given (scope_of c.args.scope.now) part.summary) t ≡ false)) (c.want_board.ensures ∙ ap (λ (k : ListsView). k.tables) c.self.view_is)
-    (passed_on (λ part. is_taken (id_given (scope_of c.args.scope.now) part.summary) c.want_board.new.self ≡ false) c.told.result c.counted.result c.counted.ensures.ok c.counted.ensures.err
-    (passed_on (λ part. is_taken (id_given (scope_of c.args.scope.now) part.summary) c.want_board.new.self ≡ false) c.load_part.result c.told.result c.told.ensures.ok c.told.ensures.err c.load_part.ensures.free))
+    subst (λ t. IfOk c.counted.result (λ part. is_id_taken (id_given (scope_of c.args.scope.now) part.summary) t ≡ false)) (c.want_board.ensures ∙ ap (λ (k : ListsView). k.tables) c.self.view_is)
+    (passed_on (λ part. is_id_taken (id_given (scope_of c.args.scope.now) part.summary) c.want_board.new.self ≡ false) c.told.result c.counted.result c.counted.ensures.ok c.counted.ensures.err
+    (passed_on (λ part. is_id_taken (id_given (scope_of c.args.scope.now) part.summary) c.want_board.new.self ≡ false)
+    c.load_part.result c.told.result c.told.ensures.ok c.told.ensures.err c.load_part.ensures.free))
 
 pub returns-clause-within : goal.returns-clause-within
 returns-clause-within c =

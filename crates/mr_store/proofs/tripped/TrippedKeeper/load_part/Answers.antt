@@ -4,7 +4,7 @@ use Rattle.mr_model.specs.Tables.{Stands}
 use Rattle.mr_part.specs.NextId.{id_given}
 use Rattle.mr_part.specs.Parts.{IsPartOf}
 use Rattle.mr_part.specs.ScopeOf.{scope_of}
-use Rattle.mr_replica.specs.Taken.{is_taken}
+use Rattle.mr_replica.specs.Taken.{is_id_taken}
 use Rattle.mr_store.proofs.tripped.TrippedKeeper.load_part.Goals as goal
 
 pub returns-clause-loaded : goal.returns-clause-loaded
@@ -17,6 +17,6 @@ returns-clause-loaded g c = λ clean.
 pub returns-clause-free : goal.returns-clause-free
 returns-clause-free g c = λ clean.
     subst
-    (λ k. g.K.Keeper.is_open k → IfOk c.load_part.result (λ part. is_taken (id_given (scope_of c.args.scope.now) part.summary) (g.K.Keeper.tables k) ≡ false))
+    (λ k. g.K.Keeper.is_open k → IfOk c.load_part.result (λ part. is_id_taken (id_given (scope_of c.args.scope.now) part.summary) (g.K.Keeper.tables k) ≡ false))
     c.trips.ensures.same.0
     (c.load_part.ensures.free clean)

@@ -12,5 +12,6 @@ use Rattle.mr_part.proofs.batch.candidate.Candidate.take_all.Given as goal
 -- what is left to take leads from the progress so far to the same
 abbrev pub invariant-loop-k : goal.invariant-loop-k
 invariant-loop-k l =
-    (a : Replica) (inside : Write → Bool) (p : Progress) → IsReplica p.replica → IsTrue (list_all (is_item Second) (map item_of l.items)) → length l.items + 2 < 2 ^ 64 → CoversScope a (map item_of l.items) inside → ShowsTaken a inside l.initial.self p
+    (a : Replica) (inside : Write → Bool) (p : Progress) → IsReplica p.replica → IsTrue (list_all (is_item Second) (map item_of l.items))
+    → length l.items + 2 < 2 ^ 64 → CoversScope a (map item_of l.items) inside → ShowsTaken a inside l.initial.self p
     → IsAtInside a inside (map item_of l.items) l.k p l.self

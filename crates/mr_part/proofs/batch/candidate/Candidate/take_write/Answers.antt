@@ -10,7 +10,8 @@ use Rattle.mr_part.proofs.batch.candidate.Candidate.take_write.Goals as goal
 pub returns-in_err-judge_write-clause-takes : goal.returns-in_err-judge_write-clause-takes
 returns-in_err-judge_write-clause-takes c = λ a items inside p sound named covers shows.
     let x = err_from_is_err_and c.from_residual.result c.from_residual.ensures.1 in
-    let step = write_judged c.args.line a items inside c.args.self.now c.args.write.now p (Err c.in_err-judge_write.field-0.0) sound c.is_within_limits.ensures named covers shows c.in_err-judge_write.ensures.verdict in
+    let step = write_judged c.args.line a items inside c.args.self.now c.args.write.now p
+    (Err c.in_err-judge_write.field-0.0) sound c.is_within_limits.ensures named covers shows c.in_err-judge_write.ensures.verdict in
     subst (λ r. TakesItem a inside c.args.line p (W c.args.write.now) r c.args.self.now) (sym (x.1 ∙ ap Err x.2)) (inl step)
 
 pub returns-then-not-branch-clause-takes : goal.returns-then-not-branch-clause-takes

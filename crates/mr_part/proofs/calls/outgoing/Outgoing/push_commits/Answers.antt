@@ -35,7 +35,8 @@ loop-k-preserved c =
           let id : c.id.result ≡ id_of w = c.id.ensures in
           let item : model.C c.in-Some.seq c.id.result ≡ model.C (first + length (row_writes (take k rows))) (id_of w) = λ t. model.C ((sym seq.1 ∙ is) t) (id t) in
           let before = subst (λ n. Offers n (items ++ front) c.loop-k.self.items.items c.loop-k.self.more) (sym limit) (c.loop-k.invariant.1 items offers) in
-          let more = subst (λ n. Offers n ((items ++ front) ++ lacked_items p (w ∷ [])) c.push_if_lacked.new.self.items.items c.push_if_lacked.new.self.more) (sym c.in_ok-push_if_lacked.ensures.limit) (c.in_ok-push_if_lacked.ensures.items (items ++ front) before) in
+          let more = subst (λ n. Offers n ((items ++ front) ++ lacked_items p (w ∷ [])) c.push_if_lacked.new.self.items.items c.push_if_lacked.new.self.more)
+          (sym c.in_ok-push_if_lacked.ensures.limit) (c.in_ok-push_if_lacked.ensures.items (items ++ front) before) in
           let last = c.in_ok-push_commit.ensures.items ((items ++ front) ++ lacked_items p (w ∷ [])) more in
           let all : ((items ++ front) ++ (lacked ++ [])) ++ model.C c.in-Some.seq c.id.result ∷ [] ≡ items ++ committed_items p first (row_writes (take (k + 1) rows)) =
           (λ t. ((items ++ front) ++ append-nil lacked t) ++ item t ∷ [])
@@ -50,4 +51,5 @@ loop-k-preserved c =
 -- the limit is reached
 pub returns-then-self-clause-items : goal.returns-then-self-clause-items
 returns-then-self-clause-items c = λ items offers.
-    committed_full c.args.self.now.limit c.args.position.now c.args.first items c.args.rows.now c.loop-k.k c.loop-k.self.items.items c.loop-k.self.more (c.loop-k.invariant.1 items offers) c.if-self.true
+    committed_full c.args.self.now.limit c.args.position.now c.args.first items c.args.rows.now c.loop-k.k c.loop-k.self.items.items c.loop-k.self.more
+    (c.loop-k.invariant.1 items offers) c.if-self.true

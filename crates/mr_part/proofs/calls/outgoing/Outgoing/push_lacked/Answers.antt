@@ -28,4 +28,5 @@ loop-row-preserved c =
 -- the limit is reached
 pub returns-then-self-clause-items : goal.returns-then-self-clause-items
 returns-then-self-clause-items c = λ items offers.
-    lacked_full c.args.self.now.limit c.args.position.now items c.args.rows.now c.loop-row.row-index c.loop-row.self.items.items c.loop-row.self.more (c.loop-row.invariant.1 items offers) c.if-self.true
+    lacked_full c.args.self.now.limit c.args.position.now items c.args.rows.now c.loop-row.row-index c.loop-row.self.items.items c.loop-row.self.more
+    (c.loop-row.invariant.1 items offers) c.if-self.true

@@ -2,7 +2,7 @@ use Rattle.std.proofs.Common.{rules, ◌∙◌, ap, sym, subst, List}
 use Rattle.mr_model.specs.Scopes.{Above}
 use Rattle.mr_model.specs.Tables.{LogRow, Tables}
 use Rattle.mr_part.specs.Parts.{kept_in}
-use Rattle.mr_part.specs.RowTests.{ArePicked, passes}
+use Rattle.mr_part.specs.RowTests.{ArePicked, passes_log_test}
 use Rattle.mr_part.specs.declared.scope.logs.LogTest.TheVariants as test
 use Rattle.mr_part.proofs.PartScopes.{picked_above}
 use Rattle.mr_part.proofs.scope.wanted.Wanted.above.Goals as goal
@@ -10,7 +10,8 @@ use Rattle.mr_part.proofs.scope.wanted.Wanted.above.Goals as goal
 pub returns-in_err-kept-clause-only : goal.returns-in_err-kept-clause-only
 returns-in_err-kept-clause-only c = λ a h e.
     let log = c.deref.ensures.value ∙ ap (λ (t : Tables). t.log) c.tables.view_is in
-    let told = subst (λ (rows : List LogRow). ArePicked a (passes (test.Above c.args.number)) rows (kept_in (Above c.args.number) a)) (sym log) (picked_above a c.args.number c.args.tables.now h e) in
+    let told = subst (λ (rows : List LogRow). ArePicked a (passes_log_test (test.Above c.args.number)) rows (kept_in (Above c.args.number) a))
+    (sym log) (picked_above a c.args.number c.args.tables.now h e) in
     let only = c.in_err-kept.ensures.only a (kept_in (Above c.args.number) a) h told in
     search (rules, only)
 
@@ -20,6 +21,7 @@ returns-clause-wanted c =
     record {
       bookings_are = c.nothing.ensures;
       kept_are = λ a h e.
-          let told = subst (λ (rows : List LogRow). ArePicked a (passes (test.Above c.args.number)) rows (kept_in (Above c.args.number) a)) (sym log) (picked_above a c.args.number c.args.tables.now h e) in
+          let told = subst (λ (rows : List LogRow). ArePicked a (passes_log_test (test.Above c.args.number)) rows (kept_in (Above c.args.number) a))
+          (sym log) (picked_above a c.args.number c.args.tables.now h e) in
           c.in_ok-kept.ensures.writes a (kept_in (Above c.args.number) a) h told;
     }
