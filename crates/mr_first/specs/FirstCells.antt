@@ -61,4 +61,5 @@ is_first_place_cell (Blob b) = false
 
 -- the place of a booking with at most eight alternatives
 abbrev pub first_place_columns : Columns Place
-first_place_columns = record { width = 1; cells = λ p. Int (place_number p) ∷ []; value_in = λ r. place_in (whole_of (column r 0)); are = λ r. is_first_place_cell (column r 0); within = is_first_place }
+first_place_columns =
+    record { width = 1; cells = λ p. Int (place_number p) ∷ []; value_in = λ r. place_in (whole_of (column r 0)); are = λ r. is_first_place_cell (column r 0); within = is_first_place }

@@ -44,7 +44,8 @@ first_undo_row_of x = record { server = x.0.server; n = x.0.n; place = x.1 }
 pub write_made : IsMade write_form (both (both (both (both id_columns time_columns) name_columns) meeting_columns) commit_columns) write_row_of
 write_made =
     made refl refl (λ r. refl) (λ x. refl)
-    (λ x. ap (λ b. b && is_commit x.1) (ap (λ b. b && is_title x.0.1.title) (and_assoc _ (is_length x.0.1.length) (is_choices x.0.1.length x.0.1.choices)) ∙ and_assoc _ (is_length x.0.1.length && is_choices x.0.1.length x.0.1.choices) (is_title x.0.1.title)))
+    (λ x. ap (λ b. b && is_commit x.1) (ap (λ b. b && is_title x.0.1.title) (and_assoc _ (is_length x.0.1.length) (is_choices x.0.1.length x.0.1.choices))
+    ∙ and_assoc _ (is_length x.0.1.length && is_choices x.0.1.length x.0.1.choices) (is_title x.0.1.title)))
 
 pub undo_made : IsMade undo_form (both id_columns first_place_columns) first_undo_row_of
 undo_made = made refl refl (λ r. refl) (λ x. refl) (λ x. refl)

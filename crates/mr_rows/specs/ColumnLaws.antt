@@ -13,7 +13,8 @@ use Rattle.mr_rows.specs.RowCells.{nat_of, whole_of, place_number, place_in, act
 use Rattle.mr_rows.specs.RowLimits.{is_choices, is_action_cells, is_place_of}
 use Rattle.mr_rows.specs.CellLimits.{is_number_cell, are_booking_cells, are_cancel_cells, are_logged_cells}
 use Rattle.mr_rows.specs.Shown.{columns_from}
-use Rattle.mr_rows.specs.Columns.{Columns, ShowsCells, AreShown, AreSpelled, number_columns, mark_columns, name_columns, title_columns, day_columns, id_columns, span_columns, meeting_columns, logged_columns, both}
+use Rattle.mr_rows.specs.Columns.{Columns, ShowsCells, AreShown, AreSpelled, number_columns, mark_columns, name_columns, title_columns}
+use Rattle.mr_rows.specs.Columns.{day_columns, id_columns, span_columns, meeting_columns, logged_columns, both}
 use Rattle.mr_rows.specs.ShownCells.{also, sure, number, given, mark_cell, id_cells, place, text, day, empty}
 
 -- ---- so many cells
@@ -72,7 +73,8 @@ target_of r = record { server = nat_of (column r 4); n = nat_of (column r 5) }
 
 abbrev ShowsAction : Row → Bool → ActionCells → Type 0
 ShowsAction r test a =
-    ShowsCells test (action_row a ++ Int (place_number (place_in (whole_of (column r 6)))) ∷ []) (columns_from 0 7 r) (is_action_cells a && is_place_of (is_cancel_cells a) (place_in (whole_of (column r 6))))
+    ShowsCells test (action_row a ++ Int (place_number (place_in (whole_of (column r 6)))) ∷ []) (columns_from 0 7 r)
+    (is_action_cells a && is_place_of (is_cancel_cells a) (place_in (whole_of (column r 6))))
 
 -- a write that books
 meeting : (r : Row) → ShowsAction r (is_number_cell 0 0 (column r 0) && are_booking_cells r) (OfMeeting (meeting_of r))

@@ -87,7 +87,8 @@ logged_columns = record {
   width = 7;
   cells = λ x. action_row x.0 ++ Int (place_number x.1) ∷ [];
   value_in = λ r. (
-    action_in (nat_of (column r 0)) (record { length = nat_of (column r 1); choices = bytes (column r 2); title = bytes (column r 3) }) (record { server = nat_of (column r 4); n = nat_of (column r 5) }),
+    action_in (nat_of (column r 0)) (record { length = nat_of (column r 1); choices = bytes (column r 2); title = bytes (column r 3) })
+        (record { server = nat_of (column r 4); n = nat_of (column r 5) }),
     place_in (whole_of (column r 6)),
   );
   are = are_logged_cells;

@@ -9,7 +9,8 @@ use Rattle.mr_model.specs.Queries.{booking_id, error_id, cancelled_id, cancel_id
 use Rattle.mr_tables.specs.Change.{id_before}
 use Rattle.sqlite_schema.specs.declared.schema.Table.{Table}
 use Rattle.mr_rows.specs.Schema.{meta_table, room_table, vector_table, booking_table, error_table, log_table, cancelled_table, cancel_table}
-use Rattle.mr_rows.specs.RowCells.{meta_cells_of, meta_in, room_cells, room_in, vector_cells, vector_row_from, log_cells, log_in, booking_cells, booking_row_from, error_cells, error_in, cancelled_cells, cancelled_in, cancel_cells, cancel_row_from}
+use Rattle.mr_rows.specs.RowCells.{meta_cells_of, meta_in, room_cells, room_in, vector_cells, vector_row_from, log_cells, log_in, booking_cells}
+use Rattle.mr_rows.specs.RowCells.{booking_row_from, error_cells, error_in, cancelled_cells, cancelled_in, cancel_cells, cancel_row_from}
 use Rattle.mr_rows.specs.RowLimits.{is_meta_row, is_vector_row, is_log_row, is_booking_row, is_error_row, is_cancelled_row, is_cancel_row}
 
 -- plain rows R with keys K

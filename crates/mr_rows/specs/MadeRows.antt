@@ -25,7 +25,8 @@ pub record IsMade {R K V : Type 0} (f : Form R K) (c : Columns V) (of : V → R)
   pub spelled : (x : V) → f.cells (of x) ≡ c.cells x
   pub limits : (x : V) → f.within (of x) ≡ c.within x
 
-abbrev pub made : {R K V : Type 0} {f : Form R K} {c : Columns V} {of : V → R} → length f.table.columns ≡ c.width → nat_le c.width 100 ≡ true → ((r : Row) → f.row_in r ≡ of (c.value_in (columns_from 1 c.width r))) → ((x : V) → f.cells (of x) ≡ c.cells x)
+abbrev pub made : {R K V : Type 0} {f : Form R K} {c : Columns V} {of : V → R} → length f.table.columns ≡ c.width → nat_le c.width 100 ≡ true
+    → ((r : Row) → f.row_in r ≡ of (c.value_in (columns_from 1 c.width r))) → ((x : V) → f.cells (of x) ≡ c.cells x)
     → ((x : V) → f.within (of x) ≡ c.within x) → IsMade f c of
 made wide few read spelled limits = record { wide = wide; few = few; read = read; spelled = spelled; limits = limits }
 
@@ -88,7 +89,8 @@ cancelled_made = made refl refl (λ r. refl) (λ x. refl) (λ x. ap (λ b. b && 
 
 pub log_made : IsMade log_form (both (both (both (both id_columns time_columns) name_columns) logged_columns) commit_columns) log_of
 log_made =
-    made refl refl (λ r. refl) (λ x. ap (λ cells. Int (pos x.0.0.0.0.server) ∷ Int (pos x.0.0.0.0.n) ∷ Int (pos x.0.0.0.1) ∷ Text x.0.0.1 ∷ cells) (sym (append_assoc (action_row x.0.1.0) (Int (place_number x.0.1.1) ∷ []) (Int (pos x.1) ∷ []))))
+    made refl refl (λ r. refl) (λ x. ap (λ cells. Int (pos x.0.0.0.0.server) ∷ Int (pos x.0.0.0.0.n) ∷ Int (pos x.0.0.0.1) ∷ Text x.0.0.1 ∷ cells)
+    (sym (append_assoc (action_row x.0.1.0) (Int (place_number x.0.1.1) ∷ []) (Int (pos x.1) ∷ []))))
     (λ x. ap (λ b. b && is_commit x.1) (and_assoc _ (is_action_cells x.0.1.0) (is_place_of (is_cancel_cells x.0.1.0) x.0.1.1)))
 
 pub cancel_made : IsMade cancel_form (both (both (both (both (both id_columns name_columns) id_columns) mark_columns) time_columns) commit_columns) cancel_row_of

@@ -52,9 +52,11 @@ pub record IsTableOf {T R K : Type 0} (Held : Trees → Type 0) (seen : Trees �
   pub back : (xs : List R) (t : T) → rows_of (with_rows xs t) ≡ xs
   pub again : (xs ys : List R) (t : T) → with_rows ys (with_rows xs t) ≡ with_rows ys t
 
-abbrev pub table_is : {T R K : Type 0} {Held : Trees → Type 0} {seen : Trees → T} (f : Form R K) (rows_of : T → List R) (with_rows : List R → T → T) → ((t : Trees) → Held t → IsHeld f (t f.table.tree))
+abbrev pub table_is : {T R K : Type 0} {Held : Trees → Type 0} {seen : Trees → T} (f : Form R K) (rows_of : T → List R) (with_rows : List R → T → T)
+    → ((t : Trees) → Held t → IsHeld f (t f.table.tree))
     → ((t : Trees) (rows : List Row) → Held t → IsHeld f rows → Held (trees_with t f.table.tree rows)) → ((t : Trees) → rows_of (seen t) ≡ in_order f (t f.table.tree))
-    → ((t : Trees) (rows : List Row) → seen (trees_with t f.table.tree rows) ≡ with_rows (in_order f rows) (seen t)) → ((t : T) → with_rows (rows_of t) t ≡ t) → ((xs : List R) (t : T) → rows_of (with_rows xs t) ≡ xs)
+    → ((t : Trees) (rows : List Row) → seen (trees_with t f.table.tree rows) ≡ with_rows (in_order f rows) (seen t))
+    → ((t : T) → with_rows (rows_of t) t ≡ t) → ((xs : List R) (t : T) → rows_of (with_rows xs t) ≡ xs)
     → ((xs ys : List R) (t : T) → with_rows ys (with_rows xs t) ≡ with_rows ys t) → IsTableOf Held seen f rows_of with_rows
 table_is f rows_of with_rows was held read made same back again = record { was = was; held = held; read = read; made = made; same = same; back = back; again = again }
 
