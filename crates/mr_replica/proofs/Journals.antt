@@ -20,7 +20,7 @@ use Rattle.mr_replica.specs.Journal.{AreSteps, IsRowStep, is_going, rows_but}
 use Rattle.mr_replica.proofs.RowsById.{one_row}
 
 -- a row that isn't found isn't there
-lacks : {R : Type 0} (p : R → Bool) (rows : List R) → find p rows ≡ None → (y : R) → Has y rows → p y ≡ false
+pub lacks : {R : Type 0} (p : R → Bool) (rows : List R) → find p rows ≡ None → (y : R) → Has y rows → p y ≡ false
 lacks p [] none y h = absurd h
 lacks {R} p (x ∷ rows) none y h = go (p x) refl none h (lacks p rows)
   where

@@ -27,10 +27,10 @@ loop-log-preserved c =
     let is : IsTold log row = record { told = c.in_ok-row.ensures.told; only = λ w place seq within e. answered row (kept_row_with w seq place) (c.in_ok-row.ensures.read w place seq within e) } in
     let next : put_all id_before log_id (take (k + 1) news) table ≡ put id_before log_id log so_far =
     ap (λ xs. put_all id_before log_id xs table) (take_more news k log c.loop-log-test.true c.log-item.is) ∙ put_more (take k news) log table in
-    let order : InOrder id_before log_id so_far = put_all_in_order id_before log_id id_order (take k news) table c.is_new.ensures.order in
-    let new : c.is_new.result ≡ true → (one : LogRow) → Has one so_far → log_id one ≡ log_id log → ⊥ =
+    let order : InOrder id_before log_id so_far = put_all_in_order id_before log_id id_order (take k news) table c.is_new-is_new.ensures.order in
+    let new : c.is_new-is_new.result ≡ true → (one : LogRow) → Has one so_far → log_id one ≡ log_id log → ⊥ =
     λ yes. new_one table so_far log was c.loop-log.invariant.1
-    (subst (λ (i : Id). ((one : LogRow) → Has one table → log_id one ≡ i → ⊥) × (was i ≡ false)) c.id-id.ensures (c.is_new.ensures.absent yes, c.is_new.ensures.unput yes)) in
+    (subst (λ (i : Id). ((one : LogRow) → Has one table → log_id one ≡ i → ⊥) × (was i ≡ false)) c.id-id.ensures (c.is_new-is_new.ensures.absent yes, c.is_new-is_new.ensures.unput yes)) in
     let more : (i : Id) → has_id c.insert.new.self i ≡ (same_id (log_id log) i || was i) =
     λ i. subst (λ (j : Id). has_id c.insert.new.self i ≡ (same_id j i || was i)) c.id-id.ensures (id_more c.loop-log.put c.insert.new.self c.id-id.result i c.in_ok-insert.ensures.updates) in (
       λ shared. subst (λ t. IsSharedLog t c.put_one.new.rows.items) (sym next) (c.in_ok-put_one.ensures so_far log order (c.loop-log.invariant.0 shared) is new),
