@@ -91,9 +91,9 @@ COUNTS = (
 
 # The most words: of each of these documents; of those that stand at the top and in docs/ together, but for CHANGELOG.md, which grows; of these and the
 # READMEs of crates; and of a promise.
-MOST_WORDS = {'docs/DECISIONS.md': 5300, 'docs/PERFORMANCE.md': 3100, 'docs/PROMISES.md': 6950}
-MOST_IN_ALL = 35_200
-MOST_WITH_CRATES = 44_950
+MOST_WORDS = {'docs/DECISIONS.md': 5300, 'docs/PERFORMANCE.md': 3100, 'docs/PROMISES.md': 6800}
+MOST_IN_ALL = 35_000
+MOST_WITH_CRATES = 44_600
 MOST_OF_A_PROMISE = 30
 
 
