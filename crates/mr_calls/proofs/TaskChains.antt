@@ -7,7 +7,7 @@ use Rattle.mr_model.specs.Refusals.{Refusal, first_refusal}
 use Rattle.mr_model.specs.Replica.{Replica}
 use Rattle.mr_model.specs.Exchange.{Batch, batch_text}
 use Rattle.mr_model.specs.Positions.{Position, read_position}
-use Rattle.mr_model.specs.Replies.{Reply, BatchIs, reply_text}
+use Rattle.mr_model.specs.Replies.{Reply, BatchIs, Refused, reply_text}
 use Rattle.mr_model.specs.Step.{After, Command, BatchFor, IsOfMachine, IsStep, batch_faults, batch_of, batch_unless, no_memory, no_store, reply_to_position, step}
 use Rattle.mr_model.specs.Tables.{Stands}
 use Rattle.mr_model.specs.World.{batch_numbered}
@@ -33,7 +33,7 @@ use Rattle.mr_calls.proofs.CallChains.{calls_happen}
 -- it is one call, or none
 pub tasks_calls : {K : Type 0} (k : Ghosts K) → TasksAreCalls k
 tasks_calls k asked old new held holds status (inl (c, reply, is, served, told)) clean =
-    ((c, reply) ∷ [], (is, told), (new, served_is_called k old new c reply served.0 clean, inr refl, refl))
+    ((c, reply) ∷ [], (is, told), (new, served_is_called k old new c reply served.0 clean, refl))
 tasks_calls k asked old new held holds status (inr (same, fault)) clean = ([], fault, same)
 
 -- a keeper that is clean behind a task was so before it
@@ -112,6 +112,10 @@ refusal_status : (reply : Reply) → IsOfMachine reply → status_of reply ≡ 0
 refusal_status reply no_memory e = omega (arith, e)
 refusal_status reply no_store e = omega (arith, e)
 
+-- and so has each other one
+any_refusal_status : (reply : Reply) (e : Refusal) → reply ≡ Refused e → status_of reply ≡ 0 → ⊥
+any_refusal_status reply e is zero = let one : status_of (Refused e) ≡ 0 = subst (λ r. status_of r ≡ 0) is zero in absurd (omega (arith, one))
+
 -- what isn't refused is a batch
 unless_batch : (o : Option Refusal) (b : Batch) (reply : Reply) → reply ≡ batch_unless o b → status_of reply ≡ 0 → reply ≡ BatchIs b
 unless_batch None b reply is zero = is
@@ -155,9 +159,10 @@ writes_batch (tasks.Export position out lines) path c reply held holds e is told
 pub exports_given : {K : Type 0} (k : Ghosts K) → ExportsAreGiven k
 exports_given k asked path old new held holds [] texts a count e fault stands are = absurd (no_fault held holds fault)
 exports_given k asked path old new held holds (c ∷ d ∷ cs) texts a count e none stands are = absurd none
-exports_given {K} k asked path old new held holds (c ∷ []) texts a count e of stands (m, call, known, same) =
+exports_given {K} k asked path old new held holds (c ∷ []) texts a count e of stands (m, call, same) =
     let (position, lines, is, zero) = writes_batch asked path c.0 c.1 held holds e of.0 of.1 in
-    let open_m : k.is_open m = elim call.lasts [ inl machine ↦ absurd (refusal_status c.1 machine zero) | inr now ↦ now ] in
+    let was_open : k.is_open old = elim call.answered [ inl was ↦ was | inr refused ↦ absurd (any_refusal_status c.1 refused.0 refused.1 zero) ] in
+    let open_m : k.is_open m = elim (call.lasts was_open) [ inl machine ↦ absurd (refusal_status c.1 machine zero) | inr now ↦ now ] in
     let (b, took, after) = call.step open_m a stands in
     let (x, given) = step_given a b position lines c.1 (subst (λ command. IsStep a command c.1 b) is took) zero in
     subst (λ command. IsFrontOf (texts_after texts command c.1) (take count (reply_text c.1))) (sym is)
